@@ -1,0 +1,3 @@
+pub mod Algorithm
+pub mod Digest
+pub mod Inside
