@@ -1,0 +1,12 @@
+pub mod Input
+pub mod Value
+pub mod Steps
+pub mod Next
+pub mod Typed
+pub mod Order
+pub mod Shape
+pub mod Reading
+pub mod Grammar
+pub mod Algorithm
+pub mod Inside
+pub mod Example
