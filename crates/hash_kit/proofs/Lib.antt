@@ -1,2 +1,5 @@
 pub mod Sizes
 mod Filling
+pub mod Order
+mod NodeLemmas
+mod StandardFacts

@@ -1,3 +1,5 @@
 pub mod Algorithm
 pub mod Digest
+pub mod Hashing
 pub mod Inside
+pub mod Node

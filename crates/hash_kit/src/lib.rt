@@ -4,8 +4,14 @@
 
 mod algorithm;
 mod hashing;
+mod laws;
+mod nodes;
+#[cfg(test)]
+mod tests;
 mod value;
 
 pub use algorithm::HashAlg;
-pub use hashing::digest;
+pub use hashing::{Hasher, digest};
+pub use laws::ascending_list_is_the_only_one;
+pub use nodes::node;
 pub use value::HashValue;

@@ -38,7 +38,8 @@ impl Model for HashValue {
 impl HashValue {
     /// The value of these bytes, or None where they aren't 1 to 64.
     pub fn new(bytes: &[u8]) -> Option<HashValue>
-        ensures { MatchOption result ((length bytes.now ≡ 0) ⊎ (64 < length bytes.now)) (λ h. h ≡ bytes.now) }
+        ensures { MatchOption result ((length bytes.now ≡ 0) ⊎ (64 < length bytes.now))
+            (λ value. value ≡ bytes.now) }
     {
         let size = bytes.len();
         if size == 0 || size > LONGEST {

@@ -1,0 +1,51 @@
+-- Worked values of the definitions, from the standards, so that a wrong rule in the specs does not check.
+use Rattle.std.proofs.Common.{◌≡◌, ℕ, ◌+◌, ◌-◌, ◌*◌, List, [], ◌∷◌, refl, if◌then◌else◌}
+use Rattle.std.specs.Prelude.{Some, None, nat_lt}
+use Rattle.hash_kit.specs.declared.algorithm.HashAlg.TheVariants.{Sha256, Sha384, Sha512}
+use Rattle.hash_kit.specs.Algorithm.{oid_of, algorithm_of}
+use Rattle.hash_kit.specs.Digest.{size_of}
+use Rattle.hash_kit.specs.Node.{ascending, node_of}
+
+-- the numbers of an object identifier below its first two (X.690, 8.19)
+abbrev numbers : ℕ → List ℕ → List ℕ
+numbers part [] = []
+numbers part (octet ∷ rest) =
+    if nat_lt octet 128 then (part * 128 + octet) ∷ numbers 0 rest else numbers (part * 128 + (octet - 128)) rest
+
+-- 2.16.840.1.101.3.4.2.1 and its kin (NIST's registry of algorithms; 2 * 40 + 16 = 96)
+sha256_name : numbers 0 (oid_of Sha256) ≡ 96 ∷ 840 ∷ 1 ∷ 101 ∷ 3 ∷ 4 ∷ 2 ∷ 1 ∷ []
+sha256_name = refl
+
+sha384_name : numbers 0 (oid_of Sha384) ≡ 96 ∷ 840 ∷ 1 ∷ 101 ∷ 3 ∷ 4 ∷ 2 ∷ 2 ∷ []
+sha384_name = refl
+
+sha512_name : numbers 0 (oid_of Sha512) ≡ 96 ∷ 840 ∷ 1 ∷ 101 ∷ 3 ∷ 4 ∷ 2 ∷ 3 ∷ []
+sha512_name = refl
+
+-- the name of SHA-224, one that is cut off, and none
+sha224_unknown : algorithm_of (0x60 ∷ 0x86 ∷ 0x48 ∷ 0x01 ∷ 0x65 ∷ 0x03 ∷ 0x04 ∷ 0x02 ∷ 0x04 ∷ []) ≡ None
+sha224_unknown = refl
+
+cut_unknown : algorithm_of (0x60 ∷ 0x86 ∷ 0x48 ∷ 0x01 ∷ 0x65 ∷ 0x03 ∷ 0x04 ∷ 0x02 ∷ []) ≡ None
+cut_unknown = refl
+
+sha384_known : algorithm_of (0x60 ∷ 0x86 ∷ 0x48 ∷ 0x01 ∷ 0x65 ∷ 0x03 ∷ 0x04 ∷ 0x02 ∷ 0x02 ∷ []) ≡ Some Sha384
+sha384_known = refl
+
+-- the sizes in bits (FIPS 180-4, figure 1)
+bits_256 : size_of Sha256 * 8 ≡ 256
+bits_256 = refl
+
+bits_384 : size_of Sha384 * 8 ≡ 384
+bits_384 = refl
+
+bits_512 : size_of Sha512 * 8 ≡ 512
+bits_512 = refl
+
+-- a prefix comes first, the first byte decides before the length does, and a repeated value stays
+ascends : ascending ((2 ∷ []) ∷ (1 ∷ 9 ∷ []) ∷ (1 ∷ []) ∷ (2 ∷ []) ∷ (0 ∷ 0 ∷ 0 ∷ []) ∷ []) ≡ (0 ∷ 0 ∷ 0 ∷ []) ∷ (1 ∷ []) ∷ (1 ∷ 9 ∷ []) ∷ (2 ∷ []) ∷ (2 ∷ []) ∷ []
+ascends = refl
+
+-- a single value isn't hashed (RFC 4998, 4.2)
+single : node_of Sha512 ((7 ∷ 7 ∷ []) ∷ []) ≡ 7 ∷ 7 ∷ []
+single = refl
