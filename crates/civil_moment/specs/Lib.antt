@@ -1,0 +1,4 @@
+pub mod Calendar
+pub mod Fault
+pub mod Inside
+pub mod Moment
