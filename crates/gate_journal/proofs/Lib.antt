@@ -1,0 +1,10 @@
+mod Alike
+mod EmptyJournal
+mod Exclusive
+mod FrameBytes
+mod GateField
+mod Parts
+mod Placing
+mod Reading
+mod SoFar
+mod StandardFacts

@@ -1,0 +1,101 @@
+// The bytes of a journal, and how a frame is added to them.
+//
+//     place       bytes   what
+//     0           16      the header, `EVIDENCE-ARCH-1` and LF
+//     16          1       the gate of frame 0
+//
+// and for a frame with its gate at g and a payload of n bytes:
+//
+//     g           1       its gate, open exactly where it is 01
+//     g + 1       4       n, the greatest byte first, at most 9,437,184
+//     g + 5       n       the payload
+//     g + 5 + n   32      the payload's SHA-256
+//     g + 37 + n  1       the gate of the next frame
+//
+// Frames follow while the gate before them is open. Bytes behind a closed gate mean nothing. From place 0 to the closed
+// gate there are at most 1,073,741,824 bytes.
+ghost use Rattle.std.specs.Prelude.{◌≡◌, ◌⊎◌, ◌↔◌, ◌+◌, ◌≤◌, ℕ, List, [], ◌∷◌, ◌++◌, length, take, IsTrue, IsOk, OnOk, vec_capacity};
+ghost use Rattle.ev_world.specs.Causes.{HasCause};
+ghost use Rattle.gate_journal.specs.Journal.{max_payload, max_journal, body, Reads};
+ghost use Rattle.gate_journal.specs.Inside.{IsAtRest};
+
+use ev_world::{Disk, Failed, write_synced};
+use hash_kit::{HashAlg, digest};
+use std::alloc::AllocError;
+
+/// The most bytes of a payload.
+pub const MAX_PAYLOAD: u64 = 9_437_184;
+
+/// The most bytes of a journal, its closed gate among them.
+pub(crate) const LIMIT: u64 = 1_073_741_824;
+
+/// The most bytes that an append writes at once: a length, a payload, a digest and a gate.
+pub(crate) const BUFFER: usize = 9_437_221;
+
+pub(crate) const HEADER: [u8; 16] = *b"EVIDENCE-ARCH-1\n";
+
+const OPEN: u8 = 1;
+
+const CLOSED: u8 = 0;
+
+// Where a frame stands: the place of its gate, and the length of its payload.
+#[derive(Clone, Copy, Debug, Drop)]
+pub(crate) struct Frame {
+    pub(crate) place: u64,
+    pub(crate) length: u64,
+}
+
+// Whether a gate is open.
+pub(crate) fn is_open(gate: u8) -> bool
+    ensures { IsTrue result ↔ (gate ≡ 1) }
+{
+    gate == OPEN
+}
+
+// Puts what stands behind a frame's gate, and the next gate, into the buffer, which has room for them.
+#[tactic(auto, unfolding(crate::specs::Journal::body))]
+fn fill(buffer: &mut Vec<u8>, payload: &[u8]) -> Result<(), AllocError>
+    requires size { length payload.now ≤ max_payload }
+    requires room { 9437221 ≤ vec_capacity buffer.old }
+    ensures ok { IsOk result }
+    ensures items { buffer.new.items ≡ body payload.now ++ 0 ∷ [] }
+    ensures room { 9437221 ≤ vec_capacity buffer.new }
+{
+    let size = payload.len() as u32;
+    let hash = digest(HashAlg::Sha256, payload);
+    buffer.clear();
+    buffer.extend_from_slice(&size.to_be_bytes())?;
+    buffer.extend_from_slice(payload)?;
+    buffer.extend_from_slice(hash.bytes())?;
+    buffer.extend_from_slice(&[CLOSED])?;
+    Ok(())
+}
+
+// Puts a frame behind the closed gate at `end`, and opens the gate.
+pub(crate) fn write_frame<D: Disk>(
+    disk: &mut D,
+    buffer: &mut Vec<u8>,
+    end: u64,
+    payload: &[u8],
+) -> Result<(), Failed>
+    requires size { length payload.now ≤ max_payload }
+    requires limit { end + length payload.now + 38 ≤ max_journal }
+    requires gate { IsTrue D.tells → end + 1 ≤ length (D.reads disk.old) }
+    requires room { 9437221 ≤ vec_capacity buffer.old }
+    ensures made { OnOk result (IsTrue D.tells → (h : List (List ℕ)) → IsAtRest (D.reads disk.old) end h
+        → IsAtRest (D.reads disk.new) (end + length payload.now + 37) (h ++ payload.now ∷ [])) }
+    ensures either { IsTrue D.tells → (h : List (List ℕ)) → IsAtRest (D.reads disk.old) end h
+        → Reads (D.reads disk.new) h ⊎ Reads (D.reads disk.new) (h ++ payload.now ∷ []) }
+    ensures front { IsTrue D.tells → take end (D.reads disk.new) ≡ take end (D.reads disk.old) }
+    ensures room { 9437221 ≤ vec_capacity buffer.new }
+    ensures cause { HasCause (D.faults disk.old) (D.faults disk.new) result }
+{
+    let Ok(()) = fill(buffer, payload) else {
+        unreachable!()
+    };
+    // The frame has to be on the disk first: behind a gate that is open, whatever is there would count.
+    write_synced(disk, end + 1, buffer)?;
+    // Only what is on the disk is acknowledged, the open gate too.
+    write_synced(disk, end, &[OPEN])?;
+    Ok(())
+}

@@ -1,0 +1,179 @@
+// Opening reads the frames one by one, up to the first gate that is closed: two reads a frame.
+ghost use Rattle.std.specs.Prelude.{◌≡◌, map, ◌+◌, ◌^◌, ◌<◌, ◌≤◌, ◌++◌, ◌↔◌, drop, take, length, IsTrue, IfOk, IfSome, IfErr, IsErrOf, vec_len};
+ghost use Rattle.std.specs.Int.{w32, to_be_bytes, from_be_bytes};
+ghost use Rattle.ev_world.specs.Causes.{Rose, HasCause};
+ghost use Rattle.gate_journal.specs.Journal.{max_payload, max_journal};
+ghost use Rattle.gate_journal.specs.Damage.{IsFormatted, Damages, IsOpenFault};
+ghost use Rattle.gate_journal.specs.Inside.{IsGate, IsNext, IsFaultAt, IsFound};
+
+use crate::JournalFault;
+use crate::frame::{BUFFER, Frame, HEADER, LIMIT, MAX_PAYLOAD, is_open};
+use ev_world::{Disk, Failed};
+use hash_kit::{HashAlg, HashValue, digest};
+use std::alloc::{AllocError, Global};
+
+// The frames that were found, and where the closed gate behind them stands.
+#[derive(Drop)]
+pub(crate) struct Found {
+    pub(crate) frames: Vec<Frame>,
+    pub(crate) end: u64,
+}
+
+// Whether the header and a gate are there.
+fn is_formatted<D: Disk>(disk: &mut D, size: u64) -> Result<bool, Failed>
+    requires { IsTrue D.tells → size ≡ length (D.reads disk.old) }
+    ensures is { IfOk result (λ b. IsTrue D.tells → (IsTrue b ↔ IsFormatted (D.reads disk.old))) }
+    ensures size { IfOk result (λ b. IsTrue b → 17 ≤ size) }
+    ensures same { IsTrue D.tells → D.reads disk.new ≡ D.reads disk.old }
+    ensures cause { HasCause (D.faults disk.old) (D.faults disk.new) result }
+{
+    if size < 17 {
+        return Ok(false);
+    }
+    let mut start = [0; 16];
+    disk.read_at(0, &mut start)?;
+    Ok(start == HEADER)
+}
+
+// Reads a gate: none where it is closed, else the length behind it. Bytes that are missing are read as 0.
+fn read_gate<D: Disk>(disk: &mut D, place: u64, size: u64) -> Result<Option<u64>, Failed>
+    requires size { IsTrue D.tells → size ≡ length (D.reads disk.old) }
+    requires within { place + 1 ≤ size }
+    ensures gate { IfOk result (λ o. IsTrue D.tells → IsGate (drop place (D.reads disk.old)) o) }
+    ensures fits { IfOk result (λ o. IfSome o (λ n. n + 1 ≤ 2 ^ 32)) }
+    ensures same { IsTrue D.tells → D.reads disk.new ≡ D.reads disk.old }
+    ensures cause { HasCause (D.faults disk.old) (D.faults disk.new) result }
+{
+    let left = size - place;
+    let room = if left < 5 { left as usize } else { 5 };
+    let mut head = [0; 5];
+    disk.read_at(place, &mut head[..room])?;
+    if is_open(head[0]) {
+        Ok(Some(length_of(&head)))
+    } else {
+        Ok(None)
+    }
+}
+
+// The length behind a gate.
+fn length_of(head: &[u8; 5]) -> u64
+    ensures value { result ≡ from_be_bytes w32 (drop 1 head.now) }
+    ensures bytes { to_be_bytes w32 result ≡ drop 1 head.now }
+    ensures fits { result + 1 ≤ 2 ^ 32 }
+{
+    length_in(&[head[1], head[2], head[3], head[4]])
+}
+
+fn length_in(bytes: &[u8; 4]) -> u64
+    ensures value { result ≡ from_be_bytes w32 bytes.now }
+    ensures bytes { to_be_bytes w32 result ≡ bytes.now }
+    ensures fits { result + 1 ≤ 2 ^ 32 }
+{
+    u64::from(u32::from_be_bytes(*bytes))
+}
+
+// Reads what stands at the gate of frame `entry`: none where the gate is closed, else the frame's length.
+fn next_frame<D: Disk>(
+    disk: &mut D,
+    buffer: &mut [u8],
+    entry: u64,
+    place: u64,
+    size: u64,
+) -> Result<Option<u64>, JournalFault>
+    requires size { IsTrue D.tells → size ≡ length (D.reads disk.old) }
+    requires within { place + 1 ≤ size }
+    requires limit { place + 1 ≤ max_journal }
+    requires buffer { 9437221 ≤ length buffer.old }
+    ensures next { IfOk result (λ o. IsTrue D.tells → IsNext (drop place (D.reads disk.old)) place o) }
+    ensures fits { IfOk result (λ o. IfSome o (λ n. (n ≤ max_payload) × (place + n + 38 ≤ size) × (place + n + 38 ≤ max_journal))) }
+    ensures answers { IfErr result IsOpenFault }
+    ensures fault { IfErr result (λ e. IsTrue D.tells → IsFaultAt (drop place (D.reads disk.old)) place entry e) }
+    ensures failed { IsErrOf result JournalFault.DiskFault → Rose (D.faults disk.old) (D.faults disk.new) }
+    ensures later { D.faults disk.old ≤ D.faults disk.new }
+    ensures same { IsTrue D.tells → D.reads disk.new ≡ D.reads disk.old }
+{
+    let Some(length) = read_gate(disk, place, size)? else {
+        return Ok(None);
+    };
+    if length > MAX_PAYLOAD || size - place < length + 38 || place + length + 38 > LIMIT {
+        return Err(JournalFault::BadLength { entry, length });
+    }
+    let body = &mut buffer[..length as usize + 32];
+    disk.read_at(place + 5, body)?;
+    let (payload, kept) = body.split_at(length as usize);
+    let found = digest(HashAlg::Sha256, payload);
+    if found.bytes() == kept {
+        Ok(Some(length))
+    } else {
+        Err(JournalFault::Damaged {
+            entry,
+            kept: HashValue::of(kept),
+            found,
+        })
+    }
+}
+
+// Reads the frames of a journal.
+fn read_frames<D: Disk>(
+    alloc: Global,
+    disk: &mut D,
+    buffer: &mut [u8],
+) -> Result<Found, JournalFault>
+    requires buffer { 9437221 ≤ length buffer.old }
+    ensures found { IfOk result (λ r. IsFound D.tells (D.reads disk.old) (map (λ f. f.place) r.frames.items) (map (λ f. f.length) r.frames.items) r.end) }
+    ensures answers { IfErr result IsOpenFault }
+    ensures fault { IfErr result (λ e. IsTrue D.tells → Damages (D.reads disk.old) e) }
+    ensures failed { IsErrOf result JournalFault.DiskFault → Rose (D.faults disk.old) (D.faults disk.new) }
+    ensures later { D.faults disk.old ≤ D.faults disk.new }
+    ensures same { IsTrue D.tells → D.reads disk.new ≡ D.reads disk.old }
+{
+    let size = disk.len()?;
+    if !is_formatted(disk, size)? {
+        return Err(JournalFault::NotFormatted);
+    }
+    let mut frames = Vec::new(alloc);
+    let mut place = 16;
+    'frames: loop {
+        match next_frame(disk, buffer, frames.len() as u64, place, size) {
+            Err(fault) => return Err(fault),
+            Ok(None) => return Ok(Found { frames, end: place }),
+            Ok(Some(length)) => {
+                frames.push(Frame { place, length })?;
+                place += length + 37;
+            }
+        }
+    }
+}
+
+// Reads a journal, once all of its bytes are on the disk, with a buffer for the greatest frame.
+pub(crate) fn read_journal<D: Disk>(
+    alloc: Global,
+    disk: &mut D,
+) -> Result<(Found, Vec<u8>), JournalFault>
+    ensures found { IfOk result (λ r. IsFound D.tells (D.reads disk.old) (map (λ f. f.place) r.0.frames.items) (map (λ f. f.length) r.0.frames.items) r.0.end) }
+    ensures room { IfOk result (λ r. 9437221 ≤ vec_len r.1) }
+    ensures answers { IfErr result IsOpenFault }
+    ensures fault { IfErr result (λ e. IsTrue D.tells → Damages (D.reads disk.old) e) }
+    ensures failed { IsErrOf result JournalFault.DiskFault → Rose (D.faults disk.old) (D.faults disk.new) }
+    ensures later { D.faults disk.old ≤ D.faults disk.new }
+    ensures same { IsTrue D.tells → D.reads disk.new ≡ D.reads disk.old }
+{
+    // What is told of has to be what a crash leaves.
+    let Ok(()) = disk.sync() else {
+        return Err(JournalFault::DiskFault);
+    };
+    let Ok(mut buffer) = zeros(alloc, BUFFER) else {
+        return Err(JournalFault::Memory);
+    };
+    match read_frames(alloc, disk, &mut buffer) {
+        Ok(found) => Ok((found, buffer)),
+        Err(fault) => Err(fault),
+    }
+}
+
+// The size is a parameter, so that no proof writes out a list of so many zeros.
+fn zeros(alloc: Global, size: usize) -> Result<Vec<u8>, AllocError>
+    ensures { IfOk result (λ v. vec_len v ≡ size) }
+{
+    vec![in alloc; 0; size]
+}
