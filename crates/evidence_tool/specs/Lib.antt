@@ -1,0 +1,10 @@
+pub mod Devices
+pub mod Entries
+pub mod History
+pub mod Input
+pub mod Inside
+pub mod Replies
+pub mod Requests
+pub mod Served
+pub mod Session
+pub mod Top

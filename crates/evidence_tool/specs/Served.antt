@@ -1,0 +1,114 @@
+-- How a run of `serve` ends.
+use Rattle.std.specs.Prelude.{◌≡◌, ◌⊎◌, ℕ, ◌+◌, ◌≤◌, ◌<◌, Bool, true, false, IsTrue, List, [], ◌∷◌, ◌++◌, length, take, map, IfSome}
+use Rattle.std.specs.declared.option.Option.{Option}
+use Rattle.std.specs.List.{list_any}
+use Rattle.std.specs.Io.KnownBytes.{Appends, Keeps}
+use Rattle.ev_world.specs.Causes.{Rose}
+use Rattle.gate_journal.specs.Damage.{IsFormatted}
+use Rattle.evidence_tool.specs.Requests.{Asked, IsRequests}
+use Rattle.evidence_tool.specs.declared.reply.Reply.{Reply}
+use Rattle.evidence_tool.specs.Replies.{reply_text, reply_texts, is_disk, is_memory}
+use Rattle.evidence_tool.specs.Session.{State, Session}
+use Rattle.evidence_tool.specs.History.{Holds, HoldsOrOneMore}
+
+-- the most bytes of an input
+abbrev pub input_limit : ℕ
+input_limit = 67108864
+
+-- Each request was answered in turn, and the sink took the texts of the replies; whether some reply says that the disk failed,
+-- and whether some says that there was no memory.
+pub record AllAnswered (tells : Bool) (first : State) (requests : List Asked) (taken took : Option (List ℕ)) (disk memory : Bool) (last : State) : Type 0 where
+  pub replies : List Reply
+  pub session : Session tells first requests replies last
+  pub texts : Appends taken took (reply_texts replies)
+  pub disk_is : disk ≡ list_any is_disk replies
+  pub memory_is : memory ≡ list_any is_memory replies
+
+-- The sink failed at the text of a reply: it took the texts of those before it and a part of its own, and no further request was begun.
+pub record OneUnwritten (tells : Bool) (first : State) (requests : List Asked) (taken took : Option (List ℕ)) (last : State) : Type 0 where
+  pub begun : List Asked
+  pub later : List Asked
+  pub in_order : requests ≡ begun ++ later
+  pub written : List Reply
+  pub unwritten : Reply
+  pub session : Session tells first begun (written ++ unwritten ∷ []) last
+  pub part : ℕ
+  pub texts : Appends taken took (reply_texts written ++ take part (reply_text unwritten))
+
+-- The bytes are within the limit, and are these requests.
+pub record IsInput (b : List ℕ) (qs : List Asked) : Type 0 where
+  pub short : length b ≤ input_limit
+  pub are : IsRequests b qs
+
+-- What came before a run and after it, as far as it is told: whether the disk tells its bytes; what the sink had taken, and
+-- has then; what the disk read, and reads then; the counts of faults of the sink and of the disk.
+pub record Ends : Type 0 where
+  pub tells : Bool
+  pub taken : Option (List ℕ)
+  pub took : Option (List ℕ)
+  pub before : List ℕ
+  pub after : List ℕ
+  pub sink_before : ℕ
+  pub sink_after : ℕ
+  pub disk_before : ℕ
+  pub disk_after : ℕ
+
+-- the sink took nothing, and the disk reads what it read
+pub record IsUntouched (e : Ends) : Type 0 where
+  pub sink : Keeps e.taken e.took
+  pub disk : IsTrue e.tells → e.after ≡ e.before
+
+-- The disk held the documents of the first state, and holds those of the last; after a deposit that failed it may hold that
+-- one too.
+pub record Ran (e : Ends) (first last : State) : Type 0 where
+  pub found : IsTrue e.tells → Holds e.before first.documents
+  pub sizes : IsTrue e.tells → map length first.documents ≡ first.sizes
+  pub opened : first.closed ≡ false
+  pub not_before : e.disk_before ≤ first.faults
+  pub at_end : e.disk_after ≡ last.faults
+  pub holds : IsTrue e.tells → last.closed ≡ false → Holds e.after last.documents
+  pub left_there : IsTrue e.tells → HoldsOrOneMore e.after last.documents
+
+-- the requests were answered, and the replies written
+pub record Answered (e : Ends) (requests : List Asked) (disk memory : Bool) : Type 0 where
+  pub first : State
+  pub last : State
+  pub ran : Ran e first last
+  pub all : AllAnswered e.tells first requests e.taken e.took disk memory last
+
+-- the requests were answered up to one whose reply couldn't be written
+pub record CutOff (e : Ends) (requests : List Asked) : Type 0 where
+  pub first : State
+  pub last : State
+  pub ran : Ran e first last
+  pub cut : OneUnwritten e.tells first requests e.taken e.took last
+
+-- How these requests were served, by the status.
+pub data IsServing (e : Ends) (requests : List Asked) (status : ℕ) : Type 0 where
+  -- there is no journal
+  unformatted : status ≡ 6 → (IsTrue e.tells → IsFormatted e.before → ⊥) → IsUntouched e → IsServing e requests status
+  -- the journal is damaged, or holds something else than documents within the limits
+  damaged : status ≡ 7 → (IsTrue e.tells → IsFormatted e.before) → (IsTrue e.tells → (ds : List (List ℕ)) → Holds e.before ds → ⊥) → IsUntouched e → IsServing e requests status
+  -- the disk failed, or there was no memory, before the first request
+  unopened : status ≡ 5 → Rose e.disk_before e.disk_after → IsUntouched e → IsServing e requests status
+  no_room : status ≡ 9 → IsUntouched e → IsServing e requests status
+  -- the sink failed
+  cut_off : status ≡ 4 → Rose e.sink_before e.sink_after → CutOff e requests → IsServing e requests status
+  -- each request was answered: some reply says that the disk failed; else some says that there was no memory; else none does
+  disk_failed : status ≡ 5 → Rose e.disk_before e.disk_after → (memory : Bool) → Answered e requests true memory → IsServing e requests status
+  memory_wanted : status ≡ 9 → Answered e requests false true → IsServing e requests status
+  done : status ≡ 0 → Answered e requests false false → IsServing e requests status
+
+-- How `serve` ended, by the status: the bytes that the source had left, its counts of faults, and the rest.
+pub data IsServed (left : Option (List ℕ)) (source_before source_after : ℕ) (e : Ends) (status : ℕ) : Type 0 where
+  -- the source failed
+  unread : status ≡ 3 → Rose source_before source_after → IsUntouched e → IsServed left source_before source_after e status
+  -- the input is too long
+  too_long : status ≡ 8 → IfSome left (λ b. input_limit < length b) → IsUntouched e → IsServed left source_before source_after e status
+  -- there was no memory for the input
+  unkept : status ≡ 9 → IsUntouched e → IsServed left source_before source_after e status
+  -- the input is no list of requests
+  no_requests : status ≡ 10 → IfSome left (λ b. length b ≤ input_limit) → IfSome left (λ b. (qs : List Asked) → IsRequests b qs → ⊥) → IsUntouched e
+      → IsServed left source_before source_after e status
+  -- the input is these requests, and they were served
+  served : (requests : List Asked) → IfSome left (λ b. IsInput b requests) → IsServing e requests status → IsServed left source_before source_after e status

@@ -1,0 +1,95 @@
+// One client's requests, answered in order.
+ghost use Rattle.std.specs.Prelude.{◌≡◌, ◌≤◌, map, IsTrue, vec_capacity};
+ghost use Rattle.std.specs.Io.KnownBytes.{Keeps};
+ghost use Rattle.std.specs.List.{AllByRecursion};
+ghost use Rattle.std.specs.Prelude.{Bool};
+ghost use Rattle.ev_world.specs.Causes.{Rose};
+ghost use Rattle.evidence_tool.specs.Requests.{asked, IsInRange};
+ghost use Rattle.evidence_tool.specs.Replies.{reply_text};
+ghost use Rattle.evidence_tool.specs.Session.{Answers};
+ghost use Rattle.evidence_tool.specs.Served.{AllAnswered, OneUnwritten};
+
+use crate::history::History;
+use crate::output::write_all;
+use crate::reply::{Reply, write_reply};
+use crate::request::Request;
+use ev_world::{Disk, Sink};
+use std::alloc::Global;
+
+/// The room for a reply that must not be refused, in bytes.
+const ROOM: usize = 4096;
+
+/// How a session ended.
+#[derive(Drop)]
+pub enum Served {
+    /// Each request was answered: whether a reply says that the disk failed, and whether one says that there was no memory.
+    Done { disk: bool, memory: bool },
+    /// The sink failed.
+    WriteFault,
+    /// There was no memory for the buffer, and no request was begun.
+    Memory,
+}
+
+/// Answers requests one by one, and writes each reply before the next request.
+pub fn serve_all<D: Disk, K: Sink>(
+    alloc: Global,
+    history: &mut History<D>,
+    requests: &[Request],
+    output: &mut K,
+) -> Served
+    requires { AllByRecursion IsInRange (map asked requests.now) }
+
+    ensures done { (disk memory : Bool) → result ≡ Served.Done disk memory
+        → AllAnswered D.tells history.old.state (map asked requests.now) (K.taken output.old) (K.taken output.new) disk memory history.new.state }
+
+    ensures unwritten { result ≡ Served.WriteFault
+        → OneUnwritten D.tells history.old.state (map asked requests.now) (K.taken output.old) (K.taken output.new) history.new.state }
+    ensures failed { result ≡ Served.WriteFault → Rose (K.faults output.old) (K.faults output.new) }
+
+    ensures memory_history { result ≡ Served.Memory → history.new ≡ history.old }
+    ensures memory_output { result ≡ Served.Memory → output.new ≡ output.old }
+
+    ensures later { K.faults output.old ≤ K.faults output.new }
+    ensures disk_later { history.old.state.faults ≤ history.new.state.faults }
+{
+    let Ok(mut text) = Vec::with_capacity(alloc, ROOM) else {
+        return Served::Memory;
+    };
+    let mut disk = false;
+    let mut memory = false;
+    for request in requests {
+        let reply = answer_text(alloc, history, request, &mut text);
+        let Ok(()) = write_all(output, &text) else {
+            return Served::WriteFault;
+        };
+        disk |= reply.is_disk();
+        memory |= reply.is_memory();
+    }
+    Served::Done { disk, memory }
+}
+
+// Answers a request, and puts the reply's text into a buffer with room for each reply that is one line. A document that
+// finds no room is not handed out.
+fn answer_text<D: Disk>(
+    alloc: Global,
+    history: &mut History<D>,
+    request: &Request,
+    text: &mut Vec<u8>,
+) -> Reply
+    requires range { IsInRange (asked request.now) }
+    requires room { 4096 ≤ vec_capacity text.old }
+    ensures answer { Answers D.tells history.old.state (asked request.now) result history.new.state }
+    ensures later { history.old.state.faults ≤ history.new.state.faults }
+    ensures text { text.new.items ≡ reply_text result }
+    ensures room { 4096 ≤ vec_capacity text.new }
+{
+    let place = history.entries();
+    let reply = history.answer(alloc, request);
+    text.clear();
+    if write_reply(text, &reply).is_ok() {
+        return reply;
+    }
+    let memory = Reply::Memory(place);
+    let _ = write_reply(text, &memory);
+    memory
+}
