@@ -1,7 +1,7 @@
 mod Alike
 mod EmptyJournal
-mod Exclusive
-mod FrameBytes
+pub mod Exclusive
+pub mod FrameBytes
 mod GateField
 mod Parts
 mod Placing

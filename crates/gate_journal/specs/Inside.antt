@@ -7,6 +7,10 @@ use Rattle.gate_journal.specs.View.{end_from, payloads_of}
 use Rattle.gate_journal.specs.declared.fault.JournalFault.{JournalFault}
 use Rattle.gate_journal.specs.declared.fault.JournalFault.TheVariants.{DiskFault, Occupied, NotFormatted, BadLength, Damaged, Full, Broken, Memory}
 
+-- the most bytes that an append writes at once: a length, a payload, a digest and a gate
+abbrev pub max_write : ℕ
+max_write = 9437221
+
 -- a gate that is not open
 pub record IsClosed (b : List ℕ) : Type 0 where
   pub gate : ℕ
@@ -79,6 +83,6 @@ pub record IsJournal (tells : Bool) (b places lengths : List ℕ) (end capacity 
   pub places_are : places ≡ places_from 16 lengths
   pub end_is : end ≡ end_from 16 lengths
   pub limit : end + 1 ≤ max_journal
-  pub room : 9437221 ≤ capacity
+  pub room : max_write ≤ capacity
   pub begins : IsTrue tells → Begins b end lengths (payloads_of lengths b)
   pub at_rest : IsTrue tells → broken ≡ false → IsAtRest b end (payloads_of lengths b)

@@ -17,7 +17,7 @@
 ghost use Rattle.std.specs.Prelude.{◌≡◌, ◌⊎◌, ◌↔◌, ◌+◌, ◌≤◌, ℕ, List, [], ◌∷◌, ◌++◌, length, take, IsTrue, IsOk, OnOk, vec_capacity};
 ghost use Rattle.ev_world.specs.Causes.{HasCause};
 ghost use Rattle.gate_journal.specs.Journal.{max_payload, max_journal, body, Reads};
-ghost use Rattle.gate_journal.specs.Inside.{IsAtRest};
+ghost use Rattle.gate_journal.specs.Inside.{max_write, IsAtRest};
 
 use ev_world::{Disk, Failed, write_synced};
 use hash_kit::{HashAlg, digest};
@@ -56,10 +56,10 @@ pub(crate) fn is_open(gate: u8) -> bool
 #[tactic(auto, unfolding(crate::specs::Journal::body))]
 fn fill(buffer: &mut Vec<u8>, payload: &[u8]) -> Result<(), AllocError>
     requires size { length payload.now ≤ max_payload }
-    requires room { 9437221 ≤ vec_capacity buffer.old }
+    requires room { max_write ≤ vec_capacity buffer.old }
     ensures ok { IsOk result }
     ensures items { buffer.new.items ≡ body payload.now ++ 0 ∷ [] }
-    ensures room { 9437221 ≤ vec_capacity buffer.new }
+    ensures room { max_write ≤ vec_capacity buffer.new }
 {
     let size = payload.len() as u32;
     let hash = digest(HashAlg::Sha256, payload);
@@ -81,13 +81,13 @@ pub(crate) fn write_frame<D: Disk>(
     requires size { length payload.now ≤ max_payload }
     requires limit { end + length payload.now + 38 ≤ max_journal }
     requires gate { IsTrue D.tells → end + 1 ≤ length (D.reads disk.old) }
-    requires room { 9437221 ≤ vec_capacity buffer.old }
+    requires room { max_write ≤ vec_capacity buffer.old }
     ensures made { OnOk result (IsTrue D.tells → (h : List (List ℕ)) → IsAtRest (D.reads disk.old) end h
         → IsAtRest (D.reads disk.new) (end + length payload.now + 37) (h ++ payload.now ∷ [])) }
     ensures either { IsTrue D.tells → (h : List (List ℕ)) → IsAtRest (D.reads disk.old) end h
         → Reads (D.reads disk.new) h ⊎ Reads (D.reads disk.new) (h ++ payload.now ∷ []) }
     ensures front { IsTrue D.tells → take end (D.reads disk.new) ≡ take end (D.reads disk.old) }
-    ensures room { 9437221 ≤ vec_capacity buffer.new }
+    ensures room { max_write ≤ vec_capacity buffer.new }
     ensures cause { HasCause (D.faults disk.old) (D.faults disk.new) result }
 {
     let Ok(()) = fill(buffer, payload) else {

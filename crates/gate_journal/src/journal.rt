@@ -1,10 +1,10 @@
-// An open journal, and its states:
+// A journal that was opened, and its states:
 //
-//     open to the end of its life       `open`, `append` that answers Ok or Full
-//     broken to the end of its life     `append` that answers DiskFault; every later one answers Broken
+//     whole      after `open`; an `append` that answers Ok or Full leaves it so
+//     broken     after an `append` that answered DiskFault; each later one answers Broken
 //
-// A broken journal has the frames of before, and they can be read. What the failed append left on the disk is decided
-// when the journal is opened again: that frame is there whole, or not at all.
+// A broken journal has the frames of before, and they can be read. What the failed append left on the disk shows when
+// the journal is opened again: that frame is there whole, or not at all.
 ghost use Rattle.std.specs.Prelude.{◌≡◌, ◌⊎◌, ◌+◌, ◌^◌, ◌<◌, ◌≤◌, ℕ, List, [], ◌∷◌, ◌++◌, map, length, slice_get, slice_index, Some, take, drop, false, IsTrue, IfOk, IfErr, OnOk, OnErr, IsErrOf};
 ghost use Rattle.ev_world.specs.Causes.{Rose};
 ghost use Rattle.gate_journal.specs.Journal.{max_payload, max_journal, Reads};
@@ -58,6 +58,7 @@ impl<D: Disk> Journal<D> {
     /// Opens the journal that stands on a disk, and writes nothing. Where it can't, it hands the disk
     /// back with the first fault: of the header, then of the frames in order.
     pub fn open(alloc: Global, disk: D) -> Result<Journal<D>, (D, JournalFault)>
+        // The payloads are those that the bytes read, and the bytes read no others.
         ensures reads { IfOk result (λ j. IsTrue D.tells → Reads (D.reads disk) j.payloads) }
         ensures only { IfOk result (λ j. IsTrue D.tells → (h : List (List ℕ)) → Reads (D.reads disk) h → h ≡ j.payloads) }
         ensures undamaged { IfOk result (λ j. IsTrue D.tells → (f : JournalFault) → Damages (D.reads disk) f → IsOutside f) }
@@ -67,6 +68,8 @@ impl<D: Disk> Journal<D> {
         ensures whole { IfOk result (λ j. j.broken ≡ false) }
         ensures ok_later { IfOk result (λ j. D.faults disk ≤ D.faults j.disk) }
 
+        // The bytes have the damage that is answered, and no other; what reads a list of payloads is refused only for a
+        // fault of the disk or want of memory.
         ensures answers { IfErr result (λ e. IsOpenFault e.1) }
         ensures fault { IfErr result (λ e. IsTrue D.tells → Damages (D.reads disk) e.1) }
         ensures first { IfErr result (λ e. IsTrue D.tells → (f : JournalFault) → Damages (D.reads disk) f
@@ -166,10 +169,12 @@ impl<D: Disk> Journal<D> {
         ensures after_fault { OnErr result (IsTrue D.tells → self.old.broken ≡ false
             → Reads (D.reads self.new.disk) self.old.payloads ⊎ Reads (D.reads self.new.disk) (self.old.payloads ++ payload.now ∷ [])) }
 
+        // Broken comes exactly where an earlier append failed, and names its frame.
         ensures is_broken { IsTrue self.old.broken → IsErrOf result (JournalFault.Broken (length self.old.lengths)) }
         ensures broken { (n : ℕ) → IsErrOf result (JournalFault.Broken n) → IsTrue self.old.broken }
         ensures idle_broken { (n : ℕ) → IsErrOf result (JournalFault.Broken n) → self.new ≡ self.old }
 
+        // Full comes exactly where the journal would pass its limit, and names the length that it would have.
         ensures is_full { self.old.broken ≡ false → max_journal < end_from 16 self.old.lengths + length payload.now + 38
             → IsErrOf result (JournalFault.Full (end_from 16 self.old.lengths + length payload.now + 38)) }
         ensures full { (n : ℕ) → IsErrOf result (JournalFault.Full n) → (n ≡ end_from 16 self.old.lengths + length payload.now + 38) × (max_journal < n) }

@@ -4,7 +4,7 @@ ghost use Rattle.std.specs.Int.{w32, to_be_bytes, from_be_bytes};
 ghost use Rattle.ev_world.specs.Causes.{Rose, HasCause};
 ghost use Rattle.gate_journal.specs.Journal.{max_payload, max_journal};
 ghost use Rattle.gate_journal.specs.Damage.{IsFormatted, Damages, IsOpenFault};
-ghost use Rattle.gate_journal.specs.Inside.{IsGate, IsNext, IsFaultAt, IsFound};
+ghost use Rattle.gate_journal.specs.Inside.{max_write, IsGate, IsNext, IsFaultAt, IsFound};
 
 use crate::JournalFault;
 use crate::frame::{BUFFER, Frame, HEADER, LIMIT, MAX_PAYLOAD, is_open};
@@ -83,7 +83,7 @@ fn next_frame<D: Disk>(
     requires size { IsTrue D.tells → size ≡ length (D.reads disk.old) }
     requires within { place + 1 ≤ size }
     requires limit { place + 1 ≤ max_journal }
-    requires buffer { 9437221 ≤ length buffer.old }
+    requires buffer { max_write ≤ length buffer.old }
     ensures next { IfOk result (λ o. IsTrue D.tells → IsNext (drop place (D.reads disk.old)) place o) }
     ensures fits { IfOk result (λ o. IfSome o (λ n. (n ≤ max_payload) × (place + n + 38 ≤ size) × (place + n + 38 ≤ max_journal))) }
     ensures answers { IfErr result IsOpenFault }
@@ -119,7 +119,7 @@ fn read_frames<D: Disk>(
     disk: &mut D,
     buffer: &mut [u8],
 ) -> Result<Found, JournalFault>
-    requires buffer { 9437221 ≤ length buffer.old }
+    requires buffer { max_write ≤ length buffer.old }
     ensures found { IfOk result (λ r. IsFound D.tells (D.reads disk.old) (map (λ f. f.place) r.frames.items) (map (λ f. f.length) r.frames.items) r.end) }
     ensures answers { IfErr result IsOpenFault }
     ensures fault { IfErr result (λ e. IsTrue D.tells → Damages (D.reads disk.old) e) }
@@ -151,7 +151,7 @@ pub(crate) fn read_journal<D: Disk>(
     disk: &mut D,
 ) -> Result<(Found, Vec<u8>), JournalFault>
     ensures found { IfOk result (λ r. IsFound D.tells (D.reads disk.old) (map (λ f. f.place) r.0.frames.items) (map (λ f. f.length) r.0.frames.items) r.0.end) }
-    ensures room { IfOk result (λ r. 9437221 ≤ vec_len r.1) }
+    ensures room { IfOk result (λ r. max_write ≤ vec_len r.1) }
     ensures answers { IfErr result IsOpenFault }
     ensures fault { IfErr result (λ e. IsTrue D.tells → Damages (D.reads disk.old) e) }
     ensures failed { IsErrOf result JournalFault.DiskFault → Rose (D.faults disk.old) (D.faults disk.new) }

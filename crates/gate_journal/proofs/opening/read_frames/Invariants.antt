@@ -1,7 +1,7 @@
 use Rattle.std.proofs.Common.{◌≡◌, map, ◌+◌, ◌-◌, ◌≤◌, length, IsTrue}
 use Rattle.gate_journal.specs.Journal.{max_journal}
 use Rattle.gate_journal.specs.View.{end_from}
-use Rattle.gate_journal.specs.Inside.{places_from}
+use Rattle.gate_journal.specs.Inside.{max_write, places_from}
 use Rattle.gate_journal.specs.declared.frame.Frame.{Frame}
 use Rattle.gate_journal.proofs.SoFar.{SoFar}
 use Rattle.gate_journal.proofs.opening.read_frames.Given as goal
@@ -13,7 +13,7 @@ invariant-frames g l =
     record {
       room : l.place + 1 ≤ l.size;
       low : l.place + 1 ≤ max_journal;
-      buffer : 9437221 ≤ length l.buffer;
+      buffer : max_write ≤ length l.buffer;
       places : map (λ (f : Frame). f.place) l.frames.items ≡ places_from 16 lengths;
       end : l.place ≡ end_from 16 lengths;
       later : d.faults l.fn.disk ≤ d.faults l.disk;
