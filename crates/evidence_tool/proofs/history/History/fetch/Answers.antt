@@ -6,18 +6,18 @@ use Rattle.evidence_tool.proofs.FetchLemmas.{size_at, fetched, written_over, res
 use Rattle.evidence_tool.proofs.history.History.fetch.Goals as goal
 
 pub overflow_sub-size : goal.overflow_sub-size
-overflow_sub-size g c = (size_at c.self.inside.journal.lengths _ c.length-size.result c.self.invariant.deposits.lengths_are c.length-size.ensures).at_least
+overflow_sub-size g c = (size_at c.self.inside.journal.lengths _ c.length-size.result c.self.invariant.deposits.lengths_are c.length-size.ensures.get).at_least
 
 pub read_frame-requires-clause-within : goal.read_frame-requires-clause-within
 read_frame-requires-clause-within g c =
-    let n : 13 ≤ c.length-size.result = (size_at c.self.inside.journal.lengths _ c.length-size.result c.self.invariant.deposits.lengths_are c.length-size.ensures).at_least in
-    let at = get_or_from_slice_get c.self.inside.journal.lengths c.from-entry.result c.length-size.result 0 c.length-size.ensures in
+    let n : 13 ≤ c.length-size.result = (size_at c.self.inside.journal.lengths _ c.length-size.result c.self.invariant.deposits.lengths_are c.length-size.ensures.get).at_least in
+    let at = get_or_from_slice_get c.self.inside.journal.lengths c.from-entry.result c.length-size.result 0 c.length-size.ensures.get in
     omega (arith, n, at, c.deref_mut.ensures.len, c.in-Ok.ensures)
 
 pub returns : goal.returns
 returns g c =
     let j = c.self.inside.journal in
-    let at : slice_get j.lengths c.args.id ≡ Some c.length-size.result = ap (λ (i : ℕ). slice_get j.lengths i) (sym c.from-entry.ensures) ∙ c.length-size.ensures in
+    let at : slice_get j.lengths c.args.id ≡ Some c.length-size.result = ap (λ (i : ℕ). slice_get j.lengths i) (sym c.from-entry.ensures) ∙ c.length-size.ensures.get in
     let size = size_at j.lengths c.args.id c.length-size.result c.self.invariant.deposits.lengths_are at in
     rw (← c.self.view_is) (
       slice_get_within _ c.args.id _ size.is,
