@@ -11,6 +11,8 @@ const EMPTY_JOURNAL: &[u8] = b"EVIDENCE-ARCH-1\n\0";
 
 const DEPOSIT: &[u8] = b"deposit 1\ngroup 1\ndoc 0\n\n";
 
+const TWO_DEPOSITS: &[u8] = b"deposit 1\ngroup 1\ndoc 0\n\ndeposit 1\ngroup 1\ndoc 0\n\n";
+
 // The SHA-256 of 01 00000001 00000001 00000000.
 const DIGEST: [u8; 32] = [
     0xc7, 0x05, 0xfd, 0xce, 0x94, 0xb0, 0x48, 0x77, 0xcc, 0xbc, 0xed, 0xcd, 0x6c, 0x9c, 0x66, 0x0e,
@@ -75,6 +77,15 @@ fn one_document(alloc: Global) -> Result<Vec<u8>, AllocError> {
     Ok(bytes)
 }
 
+// The bytes with another one at this place.
+fn changed(alloc: Global, bytes: &[u8], place: usize, byte: u8) -> Result<Vec<u8>, AllocError> {
+    let mut bytes = bytes.to_vec(alloc)?;
+    if let Some(there) = bytes.get_mut(place) {
+        *there = byte;
+    }
+    Ok(bytes)
+}
+
 #[test]
 fn create_makes_an_empty_journal_and_serve_reads_it(rt: HostRuntime) -> Result<(), Fail> {
     let made = ran(&rt, &Given::new(&["create"], b"", b""))?;
@@ -120,10 +131,8 @@ fn a_deposit_is_handed_out_in_the_same_run_and_in_the_next(rt: HostRuntime) -> R
 fn a_refusal_writes_nothing(rt: HostRuntime) -> Result<(), Fail> {
     let alloc = rt.alloc();
     let journal = one_document(alloc)?;
-    let mut turned = one_document(alloc)?;
-    turned[33] = 1;
-    let mut longer = one_document(alloc)?;
-    longer[17] = 0xff;
+    let turned = changed(alloc, &journal, 33, 1)?;
+    let longer = changed(alloc, &journal, 17, 0xff)?;
     let cases = [
         (Given::new(&["serve", "now"], b"", &journal), 2),
         (Given::new(&[], b"", &journal), 2),
@@ -174,15 +183,13 @@ fn after_a_failed_write_the_archive_is_closed_until_it_is_opened_again(
     rt: HostRuntime,
 ) -> Result<(), Fail> {
     let alloc = rt.alloc();
-    let mut requests = DEPOSIT.to_vec(alloc)?;
-    requests.extend_from_slice(DEPOSIT)?;
-    let mut given = Given::new(&["serve"], &requests, EMPTY_JOURNAL);
+    let mut given = Given::new(&["serve"], TWO_DEPOSITS, EMPTY_JOURNAL);
     given.disk_fails = &[4];
     let failed = ran(&rt, &given)?;
     assert_eq!(&rt; failed.ended.status, 5);
     assert_eq!(&rt; failed.output.taken(), b"0 disk\n0 closed 0\n".as_slice());
-    let journal = failed.ended.journal.bytes();
-    let again = ran(&rt, &Given::new(&["serve"], DEPOSIT, journal))?;
+    let journal = failed.ended.journal.bytes().to_vec(alloc)?;
+    let again = ran(&rt, &Given::new(&["serve"], DEPOSIT, &journal))?;
     assert_eq!(&rt; again.ended.status, 0);
     assert_eq!(&rt; again.output.taken(), b"0 deposited 0 1\n".as_slice());
     Ok(())
