@@ -1,5 +1,6 @@
 pub mod Sizes
 mod Filling
+pub mod KeyLemmas
 pub mod Order
 mod NodeLemmas
 mod StandardFacts

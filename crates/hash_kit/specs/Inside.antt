@@ -1,6 +1,13 @@
--- How a hash value stands in its 64 bytes.
-use Rattle.std.specs.Prelude.{◌≡◌, ℕ, List, ◌-◌, ◌<◌, ◌≤◌, ◌++◌, length, take, replicate}
+-- How a hash value stands in its 64 bytes, and what every key keeps.
+use Rattle.std.specs.Prelude.{◌≡◌, ℕ, List, ◌-◌, ◌<◌, ◌≤◌, ◌++◌, length, take, replicate, IsTrue}
 use Rattle.std.proofs.Common.{sym, ap, ◌∙◌, arith, length-take-le}
+use Rattle.hash_kit.specs.HssKey.{has_types, top_key_of, has_levels}
+
+-- what every HSS public key keeps
+pub record IsHssKey (key : List ℕ) : Type 0 where
+  pub long : length key ≡ 60
+  pub types : IsTrue (has_types (top_key_of key))
+  pub levels : IsTrue (has_levels key)
 
 -- the bytes and then zeros, 64 in all
 abbrev pub filled_up : List ℕ → List ℕ

@@ -1,9 +1,10 @@
-//! Hash algorithms, hash values, digests and hash tree nodes: a digest is the standard's function of the message,
-//! and a node hashes its values in ascending order.
+//! Hash algorithms, hash values, digests, hash tree nodes and HSS public keys: a digest is the standard's function of
+//! the message, a node hashes its values in ascending order, and bytes are a key exactly where they have its shape.
 #![tactic(auto)]
 
 mod algorithm;
 mod hashing;
+mod key;
 mod laws;
 mod nodes;
 #[cfg(test)]
@@ -12,6 +13,7 @@ mod value;
 
 pub use algorithm::HashAlg;
 pub use hashing::{Hasher, digest};
+pub use key::{HssPublic, KeyFault, has_types, u32_at};
 pub use laws::ascending_list_is_the_only_one;
 pub use nodes::node;
 pub use value::HashValue;

@@ -1,4 +1,4 @@
-use crate::{HashAlg, HashValue, Hasher, digest, node};
+use crate::{HashAlg, HashValue, Hasher, HssPublic, KeyFault, digest, node};
 use std::alloc::{AllocError, Global};
 use std::fmt::Write;
 use std::test::Fail;
@@ -90,6 +90,32 @@ fn a_node_joins_its_values_in_ascending_order(rt: HostRuntime) -> Result<(), Fai
     for &(values, hex) in &rows {
         let found = node(rt.alloc(), HashAlg::Sha256, values)?;
         assert_eq!(rt; spelled(rt.alloc(), &found)?.as_str(), hex);
+    }
+    Ok(())
+}
+
+// The bytes of the key of RFC 8554, appendix F, test case 1, before its identifier: two levels, LMS type 5 and LM-OTS
+// type 4.
+const FRONT: [u8; 12] = [0, 0, 0, 2, 0, 0, 0, 5, 0, 0, 0, 4];
+
+#[test]
+fn a_key_is_read_exactly_where_it_has_its_shape(rt: HostRuntime) -> Result<(), Fail> {
+    let rows: [(usize, u8, usize, Option<KeyFault>); 8] = [
+        (3, 2, 60, None),
+        (3, 8, 60, None),
+        (3, 9, 60, Some(KeyFault::Levels)),
+        (3, 0, 60, Some(KeyFault::Levels)),
+        (7, 10, 60, Some(KeyFault::KeyShape)),
+        (11, 5, 60, Some(KeyFault::KeyShape)),
+        (3, 9, 59, Some(KeyFault::KeyShape)),
+        (3, 2, 0, Some(KeyFault::KeyShape)),
+    ];
+    for &(place, byte, size, fault) in &rows {
+        let mut bytes = [9; 60];
+        bytes[..12].copy_from_slice(&FRONT);
+        bytes[place] = byte;
+        let found = HssPublic::read(&bytes[..size]);
+        assert_eq!(rt; found.err(), fault);
     }
     Ok(())
 }

@@ -1,0 +1,5 @@
+pub mod Chains
+mod Digits
+pub mod Loops
+pub mod Sets
+mod StandardFacts

@@ -1,0 +1,12 @@
+//! HSS/LMS signatures: a signature verifies under a key exactly where RFC 8554 says so, for every string of bytes.
+#![tactic(auto)]
+
+mod hashing;
+mod hss;
+mod key;
+mod lms;
+mod ots;
+#[cfg(test)]
+mod tests;
+
+pub use hss::hss_verify;
