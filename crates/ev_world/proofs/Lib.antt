@@ -1,2 +1,5 @@
+pub mod Moments
 pub mod Writes
+pub mod QuietCalls
+mod Unanswered
 mod StandardFacts

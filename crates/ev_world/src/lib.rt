@@ -1,11 +1,19 @@
-//! What stands outside the archive, each with a count of its faults: a source and a sink of bytes, and a disk.
+//! What stands outside the archive: a source and a sink of bytes and a disk, each with a count of its faults; an authority that
+//! stamps, with the list of its calls; and a pace for its clients.
 #![tactic(auto)]
 
+mod authority;
 mod disk;
+pub mod laws;
+mod pace;
+mod quiet;
 mod streams;
 mod synced;
 
+pub use authority::{Authority, StampCall, StampFault};
 pub use disk::Disk;
+pub use pace::Pace;
+pub use quiet::{read, settle, size_of};
 pub use streams::{Sink, Source};
 pub use synced::write_synced;
 

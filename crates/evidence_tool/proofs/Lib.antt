@@ -1,6 +1,5 @@
 pub mod AddLemmas
 pub mod DepositLemmas
-pub mod DeviceLemmas
 pub mod FetchLemmas
 pub mod InputLemmas
 pub mod LineLemmas

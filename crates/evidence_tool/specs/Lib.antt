@@ -1,4 +1,3 @@
-pub mod Devices
 pub mod Entries
 pub mod History
 pub mod Input

@@ -9,7 +9,6 @@ mod entry;
 mod history;
 mod input;
 mod laws;
-mod memory;
 mod opening;
 mod output;
 mod reading;

@@ -1,7 +1,7 @@
 // Whole runs over devices in memory. The expected bytes are those of the formats, written out by hand.
-use crate::memory::{MemDisk, MemSink, MemSource};
 use crate::top::{Ended, run};
 use der_values::{Bytes, Items};
+use ev_devices::{MemDisk, MemSink, MemSource};
 use std::alloc::{AllocError, Global};
 use std::sync::Wait;
 use std::test::Fail;
@@ -63,7 +63,7 @@ fn ran<R: Threads + Wait + Sync + AllocGlobal>(rt: &R, given: &Given) -> Result<
     let mut input = MemSource::new(bytes, numbers(alloc, given.source_fails)?);
     let mut output = MemSink::new(alloc, numbers(alloc, given.sink_fails)?, 7);
     let journal = Bytes::from_vec(given.journal.to_vec(alloc)?);
-    let disk = MemDisk::new(journal, numbers(alloc, given.disk_fails)?);
+    let disk = MemDisk::new(alloc, journal, numbers(alloc, given.disk_fails)?, u64::MAX);
     let ended = run(rt, alloc, &words, &mut input, &mut output, disk);
     Ok(Came { ended, output })
 }

@@ -1,0 +1,5 @@
+pub mod CrashLemmas
+pub mod DiskCalls
+mod SourceLemmas
+mod StandardFacts
+pub mod WriteLemmas
