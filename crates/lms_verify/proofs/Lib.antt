@@ -1,5 +1,6 @@
 pub mod Chains
 mod Digits
 pub mod Loops
+mod Messages
 pub mod Sets
 mod StandardFacts

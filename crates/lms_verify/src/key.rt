@@ -17,6 +17,20 @@ pub(crate) struct LmsKey<'a> {
     bytes: &'a [u8],
 }
 
+/// The height of the tree of an LMS type from 5 to 9 (RFC 8554, section 5.1).
+pub fn height_of(lms_type: u32) -> u32
+    ensures value { result ≡ height_of lms_type }
+    ensures most { result ≤ 25 }
+{
+    match lms_type {
+        5 => 5,
+        6 => 10,
+        7 => 15,
+        8 => 20,
+        _ => 25,
+    }
+}
+
 impl<'a> Model for LmsKey<'a> {
     ghost use Rattle.std.specs.Prelude.{ℕ, List, IsTrue};
     ghost use Rattle.hash_kit.specs.HssKey.{is_lms_key};
@@ -67,18 +81,13 @@ impl<'a> LmsKey<'a> {
         ensures value { result ≡ height_of (lms_type_of self.now) }
         ensures most { result ≤ 25 }
     {
-        match self.lms_type() {
-            5 => 5,
-            6 => 10,
-            7 => 15,
-            8 => 20,
-            _ => 25,
-        }
+        height_of(self.lms_type())
     }
 
     // The identifier I.
     pub(crate) fn identifier(&self) -> &'a [u8]
-        ensures { result.now ≡ identifier_of self.now }
+        ensures value { result.now ≡ identifier_of self.now }
+        ensures size { length result.now ≡ 16 }
     {
         &self.bytes[8..24]
     }

@@ -9,4 +9,7 @@ mod ots;
 #[cfg(test)]
 mod tests;
 
+pub use hashing::{INNER, LEAF, MESSAGE, ONE_TIME_KEY, hash, marked};
 pub use hss::hss_verify;
+pub use key::height_of;
+pub use ots::{OtsSet, after_steps, coef, greatest, set_of, with_checksum};

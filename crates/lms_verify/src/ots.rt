@@ -1,21 +1,23 @@
-ghost use Rattle.std.specs.Prelude.{◌≡◌, ◌+◌, ◌-◌, ◌*◌, ◌/◌, ◌^◌, ◌<◌, ◌≤◌, length};
+ghost use Rattle.std.specs.Prelude.{◌≡◌, ◌+◌, ◌-◌, ◌*◌, ◌/◌, ◌^◌, ◌<◌, ◌≤◌, ◌∷◌, ◌++◌, length, take, drop};
+ghost use Rattle.std.specs.Int.{w16, w32, to_be_bytes};
+ghost use Rattle.hash_kit.specs.Digest.{digest_of};
 ghost use Rattle.lms_verify.specs.Ots.{set_of, coef, checksum, with_checksum, after_steps, end_of, message_hash, ots_candidate};
 ghost use Rattle.lms_verify.specs.Inside.{IsSet};
 
-use crate::hashing::{ONE_TIME_KEY, hash, marked};
-use hash_kit::HashValue;
+use crate::hashing::{ONE_TIME_KEY, marked};
+use hash_kit::{HashAlg, HashValue, digest};
 
 /// A parameter set of LM-OTS (RFC 8554, section 4.1): the bits of a digit, the number of digits, and the shift of the
 /// checksum.
 #[derive(Clone, Copy, Debug, Drop)]
-pub(crate) struct OtsSet {
-    pub(crate) width: usize,
-    pub(crate) digits: usize,
-    pub(crate) shift: u32,
+pub struct OtsSet {
+    pub width: usize,
+    pub digits: usize,
+    pub shift: u32,
 }
 
-// The parameter set of a type from 1 to 4.
-pub(crate) fn set_of(ots_type: u32) -> OtsSet
+/// The parameter set of a type from 1 to 4.
+pub fn set_of(ots_type: u32) -> OtsSet
     ensures value { result ≡ set_of ots_type }
     ensures known { IsSet result }
     ensures few { result.digits ≤ 265 }
@@ -38,17 +40,17 @@ fn set(width: usize, digits: usize, shift: u32) -> OtsSet
     }
 }
 
-// The greatest digit, 2^w - 1.
-fn greatest(set: &OtsSet) -> u8
+/// The greatest digit, 2^w - 1.
+pub fn greatest(set: &OtsSet) -> u8
     requires { IsSet set.now }
     ensures { result ≡ 2 ^ set.now.width - 1 }
 {
     u8::MAX >> (8 - set.width)
 }
 
-// Digit i of these bytes.
+/// Digit i of these bytes (RFC 8554, section 3.1.3).
 #[tactic(auto, unfolding(crate::specs::Ots::coef))]
-fn coef(bytes: &[u8], i: usize, set: &OtsSet) -> u8
+pub fn coef(bytes: &[u8], i: usize, set: &OtsSet) -> u8
     requires set { IsSet set.now }
     requires digit { i ≤ 265 }
     requires within { i * set.now.width / 8 < length bytes.now }
@@ -73,8 +75,8 @@ fn checksum(bytes: &[u8], set: &OtsSet) -> u16
     lacking << set.shift
 }
 
-// The hash and its checksum, of which the digits are taken.
-fn with_checksum(bytes: &[u8], set: &OtsSet) -> [u8; 34]
+/// The hash of a message and its checksum (RFC 8554, section 4.4), of which the digits are taken.
+pub fn with_checksum(bytes: &[u8], set: &OtsSet) -> [u8; 34]
     requires set { IsSet set.now }
     requires size { length bytes.now ≡ 32 }
     ensures { result ≡ with_checksum set.now bytes.now }
@@ -85,25 +87,61 @@ fn with_checksum(bytes: &[u8], set: &OtsSet) -> [u8; 34]
     digits
 }
 
-// The value of digit i, after the steps from its first one to 2^w - 2.
-#[tactic(auto, unfolding(crate::specs::Ots::after_steps))]
-fn after_steps(
+// Writes a part over the bytes from this place on.
+fn write_at(bytes: &mut [u8], place: usize, part: &[u8])
+    requires { place + length part.now ≤ length bytes.old }
+    ensures written { take (place + length part.now) bytes.new ≡ take place bytes.old ++ part.now }
+{
+    bytes[place..place + part.len()].copy_from_slice(part);
+}
+
+// What a step hashes, I || u32str(q) || u16str(i) || u8str(j) || value, but for j.
+fn step_message(identifier: &[u8], leaf: u32, i: u16, value: &[u8]) -> [u8; 55]
+    requires identifier { length identifier.now ≡ 16 }
+    requires value { length value.now ≡ 32 }
+    ensures head { take 22 result ≡ identifier.now ++ to_be_bytes w32 leaf ++ to_be_bytes w16 i }
+    ensures value { drop 23 result ≡ value.now }
+{
+    let mut message = [0; 55];
+    write_at(&mut message, 0, identifier);
+    write_at(&mut message, 16, &leaf.to_be_bytes());
+    write_at(&mut message, 20, &i.to_be_bytes());
+    write_at(&mut message, 23, value);
+    message
+}
+
+// Step j: in the message the value gives way to the hash of the message.
+fn do_step(message: &mut [u8], j: u8)
+    requires { length message.old ≡ 55 }
+    ensures head { take 22 message.new ≡ take 22 message.old }
+    ensures value { drop 23 message.new
+        ≡ digest_of HashAlg.Sha256 (take 22 message.old ++ j ∷ drop 23 message.old) }
+{
+    message[22] = j;
+    let value = digest(HashAlg::Sha256, message);
+    write_at(message, 23, value.bytes());
+}
+
+/// The value of digit i after the steps `first` to `end` - 1 (RFC 8554, section 4.3). A step is one block of SHA-256.
+pub fn after_steps(
     identifier: &[u8],
     leaf: u32,
     i: u16,
     first: u8,
-    greatest: u8,
+    end: u8,
     start: &[u8],
 ) -> HashValue
-    requires steps { first ≤ greatest }
+    requires identifier { length identifier.now ≡ 16 }
+    requires steps { first ≤ end }
     requires size { length start.now ≡ 32 }
-    ensures value { result ≡ after_steps (greatest - first) identifier.now leaf i first start.now }
+    ensures value { result ≡ after_steps (end - first) identifier.now leaf i first start.now }
+    ensures size { length result ≡ 32 }
 {
-    let mut value = HashValue::of(start);
-    for step in first..greatest {
-        value = hash(identifier, leaf, i, &[step], value.bytes());
+    let mut message = step_message(identifier, leaf, i, start);
+    for step in first..end {
+        do_step(&mut message, step);
     }
-    value
+    HashValue::of(&message[23..])
 }
 
 // The end of the chain of digit i, z[i].
@@ -117,6 +155,7 @@ fn end_of(
     i: usize,
 ) -> HashValue
     requires set { IsSet set.now }
+    requires identifier { length identifier.now ≡ 16 }
     requires digits { length digits.now ≡ 34 }
     requires values { length values.now ≡ 32 * set.now.digits }
     requires digit { i < set.now.digits }
@@ -137,6 +176,7 @@ pub(crate) fn ots_candidate(
     values: &[u8],
 ) -> HashValue
     requires set { IsSet set.now }
+    requires identifier { length identifier.now ≡ 16 }
     requires hash { length message_hash.now ≡ 32 }
     requires values { length values.now ≡ 32 * set.now.digits }
     ensures value { result ≡ ots_candidate set.now identifier.now leaf message_hash.now values.now }
