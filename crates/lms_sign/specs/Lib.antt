@@ -1,0 +1,4 @@
+pub mod Hss
+pub mod Inside
+pub mod Lms
+pub mod Ots
