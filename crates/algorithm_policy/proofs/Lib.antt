@@ -1,0 +1,13 @@
+mod Splitting
+mod WordLemmas
+mod EntryLemmas
+mod PlaceLemmas
+mod LookupLemmas
+mod LineLemmas
+mod ReadLemmas
+mod TextLemmas
+mod WriteLemmas
+mod StandardFacts
+mod TimeLemmas
+mod Exists
+mod IdentifierLemmas

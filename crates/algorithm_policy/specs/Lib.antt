@@ -1,0 +1,5 @@
+pub mod Words
+pub mod Content
+pub mod Text
+pub mod Fault
+pub mod Inside
