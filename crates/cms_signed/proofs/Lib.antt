@@ -1,0 +1,9 @@
+pub mod AttributesText
+pub mod Named
+pub mod Room
+pub mod Anywhere
+pub mod AttributeOrder
+pub mod AttributesWritten
+pub mod TokenWritten
+pub mod Answered
+pub mod StandardFacts

@@ -1,0 +1,7 @@
+pub mod Names
+pub mod State
+pub mod Checks
+pub mod Attributes
+pub mod Signed
+pub mod Text
+pub mod Inside
