@@ -1,0 +1,4 @@
+pub mod Trust
+pub mod Once
+pub mod Answered
+pub mod StandardFacts
