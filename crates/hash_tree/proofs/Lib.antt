@@ -1,0 +1,6 @@
+pub mod FoldLemmas
+pub mod LevelLemmas
+pub mod PathLemmas
+pub mod PowerLemmas
+pub mod RootLemmas
+mod StandardFacts

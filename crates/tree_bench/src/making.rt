@@ -1,0 +1,67 @@
+ghost use Rattle.std.specs.Prelude.{◌≡◌, ◌-◌, ◌<◌, ◌≤◌, length, map, IfOk};
+ghost use Rattle.std.specs.List.{range_with_len};
+ghost use Rattle.hash_tree.specs.Tree.{tree_path};
+ghost use Rattle.tree_bench.specs.Made.{padded, chained, leaf_of};
+
+use der_values::Items;
+use hash_kit::HashValue;
+use hash_tree::LevelTree;
+use sha2::{Digest, Sha256};
+use std::alloc::{AllocError, Global};
+
+// The value, and as many zeros behind it.
+fn padded(value: &[u8; 32]) -> [u8; 64]
+    ensures { result ≡ padded value.now }
+{
+    let mut message = [0; 64];
+    message[..32].copy_from_slice(value);
+    message
+}
+
+/// The digest of 64 bytes that begin with the digest of 64 bytes .. that begin with this value.
+pub fn chain(start: [u8; 32], count: u32) -> [u8; 32]
+    ensures { result ≡ chained count start }
+{
+    let mut value = start;
+    for done in 0..count {
+        value = Sha256::digest(&padded(&value));
+    }
+    value
+}
+
+// The leaf of this number: its four bytes, the least significant first, and 28 zeros.
+fn leaf(number: u32) -> HashValue
+    ensures { result ≡ leaf_of number }
+{
+    let mut bytes = [0; 32];
+    bytes[..4].copy_from_slice(&number.to_le_bytes());
+    HashValue::of(&bytes)
+}
+
+/// The first leaves.
+pub fn leaves(alloc: Global, count: u32) -> Result<Items<HashValue>, AllocError>
+    ensures leaves { IfOk result (λ leaves. leaves ≡ map leaf_of (range_with_len 0 count)) }
+    ensures length { IfOk result (λ leaves. length leaves ≡ count) }
+{
+    let mut leaves = Vec::with_capacity(alloc, count as usize)?;
+    for number in 0..count {
+        leaves.push(leaf(number))?;
+    }
+    Ok(Items::from_vec(leaves))
+}
+
+/// The paths of the first leaves, of which the last is given.
+pub fn last_path(
+    alloc: Global,
+    tree: &LevelTree,
+    count: u32,
+) -> Result<Items<HashValue>, AllocError>
+    requires some { 0 < count }
+    requires most { count ≤ length tree.now.leaves }
+    ensures { IfOk result (λ path. path ≡ tree_path tree.now.alg tree.now.leaves (count - 1)) }
+{
+    for place in 0..count - 1 {
+        tree.path(alloc, place)?;
+    }
+    tree.path(alloc, count - 1)
+}
