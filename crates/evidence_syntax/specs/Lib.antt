@@ -1,0 +1,7 @@
+pub mod Checks
+pub mod Lists
+pub mod Stamps
+pub mod Record
+pub mod Text
+pub mod Valid
+pub mod Inside

@@ -1,0 +1,121 @@
+-- Archive time-stamps, their chains, and the sequence of chains (RFC 4998, 4.1 and 5.1):
+--   ArchiveTimeStampSequence ::= SEQUENCE OF ArchiveTimeStampChain
+--   ArchiveTimeStampChain    ::= SEQUENCE OF ArchiveTimeStamp
+--   ArchiveTimeStamp ::= SEQUENCE {
+--     digestAlgorithm [0] AlgorithmIdentifier OPTIONAL,
+--     attributes      [1] Attributes OPTIONAL,
+--     reducedHashtree [2] SEQUENCE OF PartialHashtree OPTIONAL,
+--     timeStamp       ContentInfo }
+use Rattle.std.specs.Prelude.{ℕ, List, length, map, Option}
+use Rattle.std.specs.Option.{option_map}
+use Rattle.der_values.specs.Input.{Input, Item}
+use Rattle.der_values.specs.Value.{value}
+use Rattle.der_values.specs.Shape.{tagged, unchecked, checked, Shape, nothing_more, unread, required, optional, repeated}
+use Rattle.der_values.specs.Reading.{Reading, body, body_optional, read_each, read}
+use Rattle.der_values.specs.Grammar.{Means, from_start}
+use Rattle.der_values.specs.Algorithm.{Name, name_of, name_seen, algorithm_shape, AlgorithmParts}
+use Rattle.evidence_syntax.specs.declared.fault.SyntaxFault.{SyntaxFault}
+use Rattle.evidence_syntax.specs.declared.stamps.Ats.{Ats}
+use Rattle.evidence_syntax.specs.declared.stamps.Chain.{Chain}
+use Rattle.evidence_syntax.specs.Checks.{RecordCheck, not_empty, stamp_counted, der, record_checks}
+use Rattle.evidence_syntax.specs.Lists.{lists_shape, ListsParts, lists_of, lists_at}
+
+-- ---- the tables; attributes and the time-stamp are not looked into
+
+abbrev pub stamp_shape : Shape RecordCheck
+stamp_shape =
+    optional (tagged 160) unchecked algorithm_shape (
+    optional (tagged 161) unchecked unread (
+    optional (tagged 162) (checked not_empty) lists_shape (
+    required (tagged 48) unchecked unread
+    nothing_more)))
+
+abbrev pub chain_shape : Shape RecordCheck
+chain_shape = repeated (tagged 48) (checked stamp_counted) stamp_shape nothing_more
+
+abbrev pub sequence_shape : Shape RecordCheck
+sequence_shape = repeated (tagged 48) (checked not_empty) chain_shape nothing_more
+
+-- ---- the parts that are named
+
+-- An archive time-stamp: the name of its hash, and all bytes of its attributes, where they stand; the values of each
+-- list of its reduced hash tree, where there is one; all bytes of its time-stamp.
+pub record Stamp : Type 0 where
+  pub algorithm : Option Name
+  pub attributes : Option (List ℕ)
+  pub lists : Option (List (List (List ℕ)))
+  pub token : List ℕ
+
+abbrev pub StampParts : Type 0
+StampParts = Option AlgorithmParts × (Option (List ℕ) × (Option ListsParts × (List ℕ × Unit {0})))
+
+abbrev pub ChainParts : Type 0
+ChainParts = List StampParts × Unit {0}
+
+abbrev pub SequenceParts : Type 0
+SequenceParts = List ChainParts × Unit {0}
+
+abbrev pub stamp_of : StampParts → Stamp
+stamp_of p = record {
+  algorithm = option_map name_of p.0;
+  attributes = option_map (λ (b : List ℕ). value 161 b) p.1.0;
+  lists = option_map lists_of p.1.1.0;
+  token = value 48 p.1.1.1.0;
+}
+
+abbrev pub chain_of : ChainParts → List Stamp
+chain_of p = map stamp_of p.0
+
+abbrev pub chains_of : SequenceParts → List (List Stamp)
+chains_of p = map chain_of p.0
+
+-- ---- the grammar of a sequence that stands alone
+
+abbrev pub sequence_alone : Shape RecordCheck
+sequence_alone = required (tagged 48) (checked not_empty) sequence_shape nothing_more
+
+-- The bytes are an ArchiveTimeStampSequence of these chains.
+abbrev pub SpellsSequence : List ℕ → List (List Stamp) → Type 0
+SpellsSequence bytes chains = Means record_checks sequence_alone 0 (λ p stamps. chains_of p.0) (from_start bytes) chains
+
+-- ---- what is seen of them in memory
+
+abbrev pub stamp_seen : Ats → Stamp
+stamp_seen s = record {
+  algorithm = option_map name_seen s.algorithm;
+  attributes = option_map (λ b. b.now) s.attributes;
+  lists = s.lists;
+  token = s.token.now;
+}
+
+abbrev pub chain_seen : Chain → List Stamp
+chain_seen c = map stamp_seen c.stamps
+
+abbrev pub chains_seen : List Chain → List (List Stamp)
+chains_seen cs = map chain_seen cs
+
+-- ---- the readings of parts of the tables
+
+abbrev pub algorithm_at : ℕ → Option Item → Reading (Option AlgorithmParts) ℕ SyntaxFault
+algorithm_at stamps v = body_optional (body record_checks (tagged 160) unchecked (read record_checks algorithm_shape)) stamps v
+
+abbrev pub tree_at : ℕ → Option Item → Reading (Option ListsParts) ℕ SyntaxFault
+tree_at stamps v = body_optional lists_at stamps v
+
+abbrev pub stamp_contents_at : ℕ → Input → Reading StampParts ℕ SyntaxFault
+stamp_contents_at stamps input = read record_checks stamp_shape stamps input
+
+abbrev pub stamp_at : ℕ → Item → Reading StampParts ℕ SyntaxFault
+stamp_at stamps v = body record_checks (tagged 48) (checked stamp_counted) (read record_checks stamp_shape) stamps v
+
+abbrev pub each_stamp : ℕ → Input → Reading (List StampParts) ℕ SyntaxFault
+each_stamp stamps input = read_each der (tagged 48) stamp_at (length input.left) stamps input
+
+abbrev pub chain_at : ℕ → Item → Reading ChainParts ℕ SyntaxFault
+chain_at stamps v = body record_checks (tagged 48) (checked not_empty) (read record_checks chain_shape) stamps v
+
+abbrev pub each_chain : ℕ → Input → Reading (List ChainParts) ℕ SyntaxFault
+each_chain stamps input = read_each der (tagged 48) chain_at (length input.left) stamps input
+
+abbrev pub sequence_at : ℕ → Item → Reading SequenceParts ℕ SyntaxFault
+sequence_at stamps v = body record_checks (tagged 48) (checked not_empty) (read record_checks sequence_shape) stamps v
