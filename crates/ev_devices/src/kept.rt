@@ -6,14 +6,15 @@ use der_values::Bytes;
 use ev_world::{StampCall, StampFault};
 use std::alloc::{AllocError, Global};
 
-pub(crate) fn copied(alloc: Global, text: &[u8]) -> Result<Bytes, AllocError>
+/// The text in memory of its own.
+pub fn copied(alloc: Global, text: &[u8]) -> Result<Bytes, AllocError>
     ensures { IfOk result (λ bytes. bytes ≡ text.now) }
 {
     Ok(Bytes::from_vec(Vec::from_slice(alloc, text)?))
 }
 
 /// Adds a call without a reply, for which there is room.
-pub(crate) fn keep_failed(calls: &mut Vec<StampCall>, now: Moment, request: Bytes)
+pub fn keep_failed(calls: &mut Vec<StampCall>, now: Moment, request: Bytes)
     requires { vec_len calls.old + 1 ≤ vec_capacity calls.old }
     ensures { calls.new.items ≡ calls.old.items ++ record { now = now; request = request; reply = None } ∷ [] }
 {
@@ -28,7 +29,7 @@ pub(crate) fn keep_failed(calls: &mut Vec<StampCall>, now: Moment, request: Byte
 }
 
 /// Adds a call with its reply, for which there is room, and hands the reply out.
-pub(crate) fn keep_replied(
+pub fn keep_replied(
     alloc: Global,
     calls: &mut Vec<StampCall>,
     now: Moment,

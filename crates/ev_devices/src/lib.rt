@@ -17,6 +17,7 @@ mod written;
 pub use bent::{BendAt, Bent};
 pub use crash::Crash;
 pub use disk::MemDisk;
+pub use kept::{copied, keep_failed, keep_replied};
 pub use pace::FreePace;
 pub use scripted::Scripted;
 pub use sink::MemSink;

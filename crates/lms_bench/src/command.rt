@@ -9,6 +9,8 @@ pub enum Work {
     Check,
     /// A signature, each by the next index.
     Sign,
+    /// A stamp of the trial authority, each by the next index.
+    Stamp,
 }
 
 fn read_work(word: &str) -> Option<Work> {
@@ -16,6 +18,7 @@ fn read_work(word: &str) -> Option<Work> {
         "blocks" => Some(Work::Blocks),
         "check" => Some(Work::Check),
         "sign" => Some(Work::Sign),
+        "stamp" => Some(Work::Stamp),
         _ => None,
     }
 }

@@ -1,4 +1,4 @@
-//! Repeats signatures and checks of HSS, and blocks of SHA-256, as often as its words say, so that a clock outside can
+//! Repeats signatures and checks of HSS, stamps, and blocks of SHA-256, as often as its words say, so that a clock outside can
 //! time them.
 #![tactic(auto)]
 
@@ -6,11 +6,13 @@ ghost use Rattle.std.specs.Prelude.{◌<◌};
 
 mod command;
 mod repeat;
+mod stamps;
 
 use command::{Work, read_command};
 use hex::encode;
 use lms_sign::{HssKey, SignFault, from_seed};
 use repeat::{all_verify, chain, last_signature};
+use stamps::last_reply;
 use std::alloc::Global;
 use std::env::Env;
 use std::{env, io};
@@ -19,7 +21,7 @@ use std::{env, io};
 const MESSAGE: &[u8] = b"evidence";
 
 /// What is printed where the words name no work.
-const USAGE: &str = "lms_bench (blocks | check | sign) COUNT";
+const USAGE: &str = "lms_bench (blocks | check | sign | stamp) COUNT";
 
 /// The seed of the key that signs: the bytes 00 to 1f.
 const SEED: [u8; 32] = [
@@ -59,6 +61,9 @@ fn outcome(alloc: Global, work: Work, count: u32) -> Result<String, SignFault>
 {
     if let Work::Blocks = work {
         return Ok(encode(alloc, &chain(SEED, count))?);
+    }
+    if let Work::Stamp = work {
+        return Ok(encode(alloc, &last_reply(alloc, SEED, count)?)?);
     }
     let key = from_seed(alloc, &SEED, 2, 5, 3)?;
     match work {
