@@ -1,0 +1,10 @@
+pub mod Stamps
+pub mod Hashes
+pub mod Order
+pub mod Values
+pub mod Covers
+pub mod Lapse
+pub mod Verdict
+pub mod Holds
+pub mod Readable
+pub mod Inside

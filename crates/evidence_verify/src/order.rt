@@ -1,0 +1,55 @@
+// The order of times.
+ghost use Rattle.std.specs.Prelude.{◌≡◌, map};
+ghost use Rattle.evidence_verify.specs.Order.{is_before, order_after, order_fault, early_fault};
+ghost use Rattle.evidence_verify.specs.Inside.{checked_seen};
+
+use crate::stamps::Checked;
+use crate::verdict::Verdict;
+use civil_moment::{Moment, moment_cmp};
+use std::cmp::Ordering;
+
+/// Whether the first moment is before the second.
+pub fn is_before(a: &Moment, b: &Moment) -> bool
+    ensures { result ≡ is_before a.now b.now }
+{
+    moment_cmp(a, b) == Ordering::Less
+}
+
+/// The first time-stamp that is before the one before it.
+pub fn order_fault(stamps: &[Checked<'_, '_>]) -> Option<Verdict>
+    ensures { result ≡ order_fault (map checked_seen stamps.now) }
+{
+    match stamps.split_first() {
+        Some((first, later)) => order_after(first.says.time, later),
+        None => None,
+    }
+}
+
+fn order_after(first: Moment, stamps: &[Checked<'_, '_>]) -> Option<Verdict>
+    ensures { result ≡ order_after first (map checked_seen stamps.now) }
+{
+    let mut before = first;
+    for stamp in stamps {
+        if is_before(&stamp.says.time, &before) {
+            return Some(Verdict::OutOfOrder {
+                chain: stamp.place.chain,
+                stamp: stamp.place.stamp,
+            });
+        }
+        before = stamp.says.time;
+    }
+    None
+}
+
+/// The moment, where it is before the last time.
+pub fn early_fault(moment: Moment, stamps: &[Checked<'_, '_>]) -> Option<Verdict>
+    ensures { result ≡ early_fault moment (map checked_seen stamps.now) }
+{
+    let stamp = stamps.last()?;
+    let last = stamp.says.time;
+    if is_before(&moment, &last) {
+        Some(Verdict::Early { moment, last })
+    } else {
+        None
+    }
+}
