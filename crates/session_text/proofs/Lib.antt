@@ -1,0 +1,10 @@
+mod Passing
+mod WordLemmas
+mod WordEnd
+mod NumberLemmas
+mod CountedLemmas
+mod VerifyLemmas
+mod DocumentLoop
+mod ReadLemmas
+mod LineLemmas
+mod StandardFacts

@@ -1,0 +1,18 @@
+//! The texts of a session: an input is read exactly as it is spelled, or refused for its first fault from the left, and a
+//! verdict is written as its one line.
+#![tactic(auto)]
+
+mod fault_text;
+pub mod laws;
+mod shape;
+mod text;
+mod verdict_text;
+mod verify_input;
+
+pub use fault_text::{write_policy_fault, write_shape_fault};
+pub use shape::{ShapeFault, ShapeKind};
+pub use verdict_text::write_verdict;
+pub use verify_input::{VerifyInput, read_verify};
+
+#[cfg(test)]
+mod tests;
