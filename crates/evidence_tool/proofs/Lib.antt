@@ -11,4 +11,6 @@ pub mod ReplyLemmas
 pub mod RequestLemmas
 pub mod ServingLemmas
 pub mod SessionLemmas
+pub mod TrialLemmas
 mod StandardFacts
+mod VerifyingLemmas

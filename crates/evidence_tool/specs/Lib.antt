@@ -7,3 +7,5 @@ pub mod Requests
 pub mod Served
 pub mod Session
 pub mod Top
+pub mod Trial
+pub mod Verifying

@@ -20,16 +20,25 @@ mod session;
 #[cfg(test)]
 mod text_tests;
 mod top;
+mod trial;
+#[cfg(test)]
+mod verify_tests;
+mod verifying;
 mod words;
 
 use adapters::{FileDisk, Reading, Writing};
+use ev_devices::FreePace;
 use std::env::Env;
 use std::fs::{File, OpenOptions};
 use std::process::ExitCode;
 use std::{env, io};
+use trial_authority::{TRIAL_SEED, TrialAuthority};
 
 /// The file of the journal, in the folder that the program is run in.
 const JOURNAL: &str = "evidence.journal";
+
+/// The file of the trial authority's key state, beside it.
+const AUTHORITY: &str = "authority.state";
 
 /// The words behind the program's name.
 fn words_of(rt: &(impl Env + AllocGlobal)) -> io::Result<Vec<String>> {
@@ -44,7 +53,7 @@ fn main(rt: HostRuntime) -> ExitCode {
     let Ok(words) = words_of(&rt) else {
         return ExitCode::from(top::BAD_WORDS);
     };
-    // A file that is opened takes the number of a standard stream that is closed. So that the journal takes none, a folder
+    // A file that is opened takes the number of a standard stream that is closed. So that the two files take none, a folder
     // is opened first, which can neither be read nor written as a stream.
     let (Ok(_input), Ok(_output), Ok(_error)) = (
         File::open(&rt, "/"),
@@ -53,13 +62,16 @@ fn main(rt: HostRuntime) -> ExitCode {
     ) else {
         return ExitCode::from(top::DISK_FAULT);
     };
-    let opened = OpenOptions::new()
-        .read(true)
-        .write(true)
-        .create(true)
-        .open(&rt, JOURNAL);
-    let Ok(file) = opened else {
+    let mut options = OpenOptions::new();
+    options.read(true).write(true).create(true);
+    let Ok(journal) = options.open(&rt, JOURNAL) else {
         return ExitCode::from(top::DISK_FAULT);
+    };
+    let Ok(state) = options.open(&rt, AUTHORITY) else {
+        return ExitCode::from(top::DISK_FAULT);
+    };
+    let Ok(authority) = TrialAuthority::new(rt.alloc(), FileDisk::new(state), TRIAL_SEED) else {
+        return ExitCode::from(top::NO_MEMORY);
     };
     let mut input = Reading::new(rt.reader());
     let mut output = Writing::new(io::writer(&rt));
@@ -69,7 +81,9 @@ fn main(rt: HostRuntime) -> ExitCode {
         &words,
         &mut input,
         &mut output,
-        FileDisk::new(file),
+        FileDisk::new(journal),
+        authority,
+        &FreePace,
     );
     ExitCode::from(ended.status)
 }
