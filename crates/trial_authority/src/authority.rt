@@ -1,8 +1,9 @@
 // The trial authority.
-ghost use Rattle.std.specs.Prelude.{◌≡◌, ◌≤◌, ℕ, [], ◌∷◌, ◌++◌, List, Some, None, IsTrue, IfOk, IfErr, IsErrOf};
+ghost use Rattle.std.specs.Prelude.{◌≡◌, ◌≤◌, ℕ, [], ◌∷◌, ◌++◌, List, Some, None, IsTrue, IfSome, IfOk, IfErr, OnOk, IsErrOf};
 ghost use Rattle.ev_world.specs.Causes.{Rose};
 ghost use Rattle.ev_world.specs.Disk.{LeavesOnly};
 ghost use Rattle.key_state.specs.Keys.{IsFormatted};
+ghost use Rattle.trial_authority.specs.Key.{trial_key};
 ghost use Rattle.trial_authority.specs.Stamping.{IsKept, IsMarkedTo, Answers, Breaks, Wants};
 
 use crate::indexes::Indexes;
@@ -16,44 +17,44 @@ use lms_sign::HssKey;
 use std::alloc::{AllocError, Global};
 use std::marker::Model;
 
-/// An authority with a key from a seed, whose key state stands on a disk that nobody else writes. The first stamp opens that state,
-/// and makes it where there is no header. Contracts see the seed, the disk, the next index once the state is open, and the calls.
+/// An authority with a key from a seed, whose key state stands on a disk that nobody else writes. The first stamp makes the key and
+/// opens that state, and makes it where there is no header. Contracts see the seed, the disk, the next index once the state is open, and the calls.
 #[derive(Drop)]
 pub struct TrialAuthority<B: Disk> {
     alloc: Global,
-    key: HssKey,
+    seed: [u8; 32],
+    // A key is some ten thousands of digests, which a run without a stamp is spared.
+    key: Option<HssKey>,
     indexes: Indexes<B>,
     calls: Vec<StampCall>,
 }
 
 impl<B: Disk> Model for TrialAuthority<B> {
-    ghost use Rattle.std.specs.Prelude.{◌≡◌};
+    ghost use Rattle.std.specs.Prelude.{◌≡◌, IfSome};
     ghost use Rattle.trial_authority.specs.Key.{trial_key};
     ghost use Rattle.trial_authority.specs.Stamping.{Stamping};
     ghost use Rattle.trial_authority.specs.Inside.{disk_of, state_of, IsHeld};
 
     ghost Value = { Stamping B };
 
-    ghost view = { λ a. record { seed = a.key.seed; disk = disk_of a.indexes; state = state_of a.indexes; calls = a.calls.items } };
+    ghost view = { λ a. record { seed = a.seed; disk = disk_of a.indexes; state = state_of a.indexes; calls = a.calls.items } };
 
-    ghost invariant = { λ a. (a.key ≡ trial_key a.key.seed) × IsHeld B.tells B.reads B.images a.indexes };
+    ghost invariant = { λ a. IfSome a.key (λ key. key ≡ trial_key a.seed) × IsHeld B.tells B.reads B.images a.indexes };
 }
 
 impl<B: Disk> TrialAuthority<B> {
-    /// An authority with the key of this seed, which has made no calls. It makes the key, and asks nothing of the disk.
+    /// An authority with the key of this seed, which has made no calls. It asks nothing of the disk.
     pub fn new(alloc: Global, disk: B, seed: [u8; 32]) -> Result<TrialAuthority<B>, (B, AllocError)>
         ensures ok { IfOk result (λ a. a ≡ record { seed = seed; disk = disk; state = None; calls = [] }) }
         ensures err { IfErr result (λ e. e.0 ≡ disk) }
     {
-        match key_of(alloc, &seed) {
-            Ok(key) => Ok(TrialAuthority {
-                alloc,
-                key,
-                indexes: Indexes::Unopened(disk),
-                calls: Vec::new(alloc),
-            }),
-            Err(fault) => Err((disk, fault)),
-        }
+        Ok(TrialAuthority {
+            alloc,
+            seed,
+            key: None,
+            indexes: Indexes::Unopened(disk),
+            calls: Vec::new(alloc),
+        })
     }
 
     /// Hands the disk back.
@@ -92,9 +93,15 @@ impl<B: Disk> Authority for TrialAuthority<B> {
         let (Ok(kept), Ok(())) = (copied(self.alloc, request), self.calls.reserve(1)) else {
             return Err(StampFault::Memory);
         };
+        let Ok(()) = make_key(self.alloc, &self.seed, &mut self.key) else {
+            return Err(StampFault::Memory);
+        };
+        let Some(key) = &self.key else {
+            return Err(StampFault::Memory);
+        };
         let call = Call {
             alloc: self.alloc,
-            key: &self.key,
+            key,
             now,
             request,
         };
@@ -113,4 +120,16 @@ impl<B: Disk> Authority for TrialAuthority<B> {
     {
         &self.calls
     }
+}
+
+// Makes the key of the seed, where it isn't made yet.
+fn make_key(alloc: Global, seed: &[u8; 32], key: &mut Option<HssKey>) -> Result<(), AllocError>
+    requires { IfSome key.old (λ k. k ≡ trial_key seed.now) }
+    ensures made { OnOk result (key.new ≡ Some (trial_key seed.now)) }
+    ensures kept { IfSome key.new (λ k. k ≡ trial_key seed.now) }
+{
+    if key.is_none() {
+        *key = Some(key_of(alloc, seed)?);
+    }
+    Ok(())
 }
