@@ -1,5 +1,5 @@
 // Opening reads the frames one by one, up to the first gate that is closed: two reads a frame.
-ghost use Rattle.std.specs.Prelude.{◌≡◌, map, ◌+◌, ◌^◌, ◌<◌, ◌≤◌, ◌++◌, ◌↔◌, drop, take, length, IsTrue, IfOk, IfSome, IfErr, IsErrOf, vec_len};
+ghost use Rattle.std.specs.Prelude.{◌≡◌, map, ◌+◌, ◌^◌, ◌<◌, ◌≤◌, ◌++◌, ◌↔◌, drop, take, length, IsTrue, IfOk, IfSome, IfErr, IsErrOf, vec_capacity};
 ghost use Rattle.std.specs.Int.{w32, to_be_bytes, from_be_bytes};
 ghost use Rattle.ev_world.specs.Causes.{Rose, HasCause};
 ghost use Rattle.gate_journal.specs.Journal.{max_payload, max_journal};
@@ -10,7 +10,7 @@ use crate::JournalFault;
 use crate::frame::{BUFFER, Frame, HEADER, LIMIT, MAX_PAYLOAD, is_open};
 use ev_world::{Disk, Failed};
 use hash_kit::{HashAlg, HashValue, digest};
-use std::alloc::{AllocError, Global};
+use std::alloc::Global;
 
 // The frames that were found, and where the closed gate behind them stands.
 #[derive(Drop)]
@@ -75,7 +75,7 @@ fn length_in(bytes: &[u8; 4]) -> u64
 // Reads what stands at the gate of frame `entry`: none where the gate is closed, else the frame's length.
 fn next_frame<D: Disk>(
     disk: &mut D,
-    buffer: &mut [u8],
+    buffer: &mut Vec<u8>,
     entry: u64,
     place: u64,
     size: u64,
@@ -83,7 +83,7 @@ fn next_frame<D: Disk>(
     requires size { IsTrue D.tells → size ≡ length (D.reads disk.old) }
     requires within { place + 1 ≤ size }
     requires limit { place + 1 ≤ max_journal }
-    requires buffer { max_write ≤ length buffer.old }
+    requires room { max_write ≤ vec_capacity buffer.old }
     ensures next { IfOk result (λ o. IsTrue D.tells → IsNext (drop place (D.reads disk.old)) place o) }
     ensures fits { IfOk result (λ o. IfSome o (λ n. (n ≤ max_payload) × (place + n + 38 ≤ size) × (place + n + 38 ≤ max_journal))) }
     ensures answers { IfErr result IsOpenFault }
@@ -91,6 +91,7 @@ fn next_frame<D: Disk>(
     ensures failed { IsErrOf result JournalFault.DiskFault → Rose (D.faults disk.old) (D.faults disk.new) }
     ensures later { D.faults disk.old ≤ D.faults disk.new }
     ensures same { IsTrue D.tells → D.reads disk.new ≡ D.reads disk.old }
+    ensures room { max_write ≤ vec_capacity buffer.new }
 {
     let Some(length) = read_gate(disk, place, size)? else {
         return Ok(None);
@@ -98,7 +99,9 @@ fn next_frame<D: Disk>(
     if length > MAX_PAYLOAD || size - place < length + 38 || place + length + 38 > LIMIT {
         return Err(JournalFault::BadLength { entry, length });
     }
-    let body = &mut buffer[..length as usize + 32];
+    let end = length as usize + 32;
+    fill_up(buffer, end);
+    let body = &mut buffer[..end];
     disk.read_at(place + 5, body)?;
     let (payload, kept) = body.split_at(length as usize);
     let found = digest(HashAlg::Sha256, payload);
@@ -113,13 +116,28 @@ fn next_frame<D: Disk>(
     }
 }
 
+// Puts zeros behind what is in the buffer, which has room for them, until it has this size. Room that no frame needs isn't touched.
+fn fill_up(buffer: &mut Vec<u8>, size: usize)
+    requires room { max_write ≤ vec_capacity buffer.old }
+    requires fits { size ≤ max_write }
+    ensures long { size ≤ length buffer.new.items }
+    ensures room { max_write ≤ vec_capacity buffer.new }
+{
+    if buffer.len() < size {
+        let Ok(()) = buffer.resize(size, 0) else {
+            unreachable!()
+        };
+    }
+}
+
 // Reads the frames of a journal.
 fn read_frames<D: Disk>(
     alloc: Global,
     disk: &mut D,
-    buffer: &mut [u8],
+    buffer: &mut Vec<u8>,
 ) -> Result<Found, JournalFault>
-    requires buffer { max_write ≤ length buffer.old }
+    requires room { max_write ≤ vec_capacity buffer.old }
+    ensures room { max_write ≤ vec_capacity buffer.new }
     ensures found { IfOk result (λ r. IsFound D.tells (D.reads disk.old) (map (λ f. f.place) r.frames.items) (map (λ f. f.length) r.frames.items) r.end) }
     ensures answers { IfErr result IsOpenFault }
     ensures fault { IfErr result (λ e. IsTrue D.tells → Damages (D.reads disk.old) e) }
@@ -151,7 +169,7 @@ pub(crate) fn read_journal<D: Disk>(
     disk: &mut D,
 ) -> Result<(Found, Vec<u8>), JournalFault>
     ensures found { IfOk result (λ r. IsFound D.tells (D.reads disk.old) (map (λ f. f.place) r.0.frames.items) (map (λ f. f.length) r.0.frames.items) r.0.end) }
-    ensures room { IfOk result (λ r. max_write ≤ vec_len r.1) }
+    ensures room { IfOk result (λ r. max_write ≤ vec_capacity r.1) }
     ensures answers { IfErr result IsOpenFault }
     ensures fault { IfErr result (λ e. IsTrue D.tells → Damages (D.reads disk.old) e) }
     ensures failed { IsErrOf result JournalFault.DiskFault → Rose (D.faults disk.old) (D.faults disk.new) }
@@ -162,18 +180,11 @@ pub(crate) fn read_journal<D: Disk>(
     let Ok(()) = disk.sync() else {
         return Err(JournalFault::DiskFault);
     };
-    let Ok(mut buffer) = zeros(alloc, BUFFER) else {
+    let Ok(mut buffer) = Vec::with_capacity(alloc, BUFFER) else {
         return Err(JournalFault::Memory);
     };
     match read_frames(alloc, disk, &mut buffer) {
         Ok(found) => Ok((found, buffer)),
         Err(fault) => Err(fault),
     }
-}
-
-// The size is a parameter, so that no proof writes out a list of so many zeros.
-fn zeros(alloc: Global, size: usize) -> Result<Vec<u8>, AllocError>
-    ensures { IfOk result (λ v. vec_len v ≡ size) }
-{
-    vec![in alloc; 0; size]
 }

@@ -18,7 +18,7 @@ returns-then-eq-clause-next g c tells =
     let n = c.in-Some.length in
     let p = c.split_at.result.0.now in
     let gate : IsOpen (drop at b) n = rw c.in-Some.is at c.in_ok-length.ensures.gate tells in
-    let many : length (take (n + 32) c.args.buffer.now) ≡ n + 32 = length-take-le (n + 32) c.args.buffer.now (omega arith) in
+    let many : length (take (n + 32) c.deref_mut.result.now) ≡ n + 32 = length-take-le (n + 32) c.deref_mut.result.now (omega (arith, ap length c.deref_mut.ensures.value, c.fill_up.ensures.long)) in
     let read : c.read_at.new.out ≡ take (n + 32) (drop (at + 5) b) =
     c.in_ok-read_at.ensures.bytes tells ∙ ap (λ (k : ℕ). take k (drop (at + 5) (d.reads c.read_gate.new.disk))) many ∙ ap (λ (f : List ℕ). take (n + 32) (drop (at + 5) f)) (c.read_gate.ensures.same tells) in
     let size = c.requires.size tells in
@@ -43,7 +43,7 @@ returns-else-eq-clause-fault g c tells =
     let n = c.in-Some.length in
     let p = c.split_at.result.0.now in
     let gate : IsOpen (drop at b) n = rw c.in-Some.is at c.in_ok-length.ensures.gate tells in
-    let many : length (take (n + 32) c.args.buffer.now) ≡ n + 32 = length-take-le (n + 32) c.args.buffer.now (omega arith) in
+    let many : length (take (n + 32) c.deref_mut.result.now) ≡ n + 32 = length-take-le (n + 32) c.deref_mut.result.now (omega (arith, ap length c.deref_mut.ensures.value, c.fill_up.ensures.long)) in
     let read : c.read_at.new.out ≡ take (n + 32) (drop (at + 5) b) =
     c.in_ok-read_at.ensures.bytes tells ∙ ap (λ (k : ℕ). take k (drop (at + 5) (d.reads c.read_gate.new.disk))) many ∙ ap (λ (f : List ℕ). take (n + 32) (drop (at + 5) f)) (c.read_gate.ensures.same tells) in
     let size = c.requires.size tells in

@@ -2,9 +2,9 @@ use Rattle.std.proofs.Common.{◌≡◌, ℕ, ◌+◌, ◌≤◌, ◌∷◌, ◌
 use Rattle.gate_journal.specs.Journal.{max_payload, max_journal}
 use Rattle.gate_journal.specs.Damage.{IsFormatted}
 use Rattle.gate_journal.specs.View.{end_from}
-use Rattle.gate_journal.specs.Inside.{places_from, IsWhole}
+use Rattle.gate_journal.specs.Inside.{places_from, IsClosed, IsWhole}
 use Rattle.gate_journal.specs.declared.frame.Frame.{Frame}
-use Rattle.gate_journal.proofs.SoFar.{so_far_none, so_far_more}
+use Rattle.gate_journal.proofs.SoFar.{so_far_none, so_far_more, so_far_end}
 use Rattle.gate_journal.proofs.Placing.{places-push, end-push, map-push}
 use Rattle.gate_journal.proofs.opening.read_frames.Goals as goal
 
@@ -14,7 +14,7 @@ frames-init g c =
     record {
       room = c.in_ok-is_formatted.ensures.size (search rules);
       low = omega arith;
-      buffer = c.requires.buffer;
+      buffer = c.requires.room;
       places = rw none refl;
       end = rw none refl;
       later = omega (arith, c.len.ensures.cause.later, c.is_formatted.ensures.cause.later);
@@ -37,7 +37,7 @@ frames-preserved g c =
     record {
       room = omega arith;
       low = omega arith;
-      buffer = omega (arith, c.next_frame.auto.buffer, k.buffer);
+      buffer = c.next_frame.ensures.room;
       places = places ∙ ap (λ (l : List ℕ). l ++ c.frames.place ∷ []) k.places
           ∙ ap (λ (e : ℕ). places_from 16 old ++ e ∷ []) k.end ∙ sym (places-push 16 old n) ∙ ap (places_from 16) (sym lengths);
       end = next ∙ ap (λ (e : ℕ). e + n + 37) k.end ∙ sym (end-push 16 old n) ∙ ap (end_from 16) (sym lengths);
@@ -45,4 +45,20 @@ frames-preserved g c =
       same = λ tells. c.next_frame.ensures.same tells ∙ k.same tells;
       size = k.size;
       so_far = λ tells. so_far_more _ _ _ (k.so_far tells) n _ _ (subst (λ (f : List ℕ). IsWhole (drop c.frames.place f) c.frames.place n) (k.same tells) (whole tells)) next lengths;
+    }
+
+pub returns-in-Ok-None-clause-found : goal.returns-in-Ok-None-clause-found
+returns-in-Ok-None-clause-found g c =
+    let k = c.frames.invariant in
+    let closed = rw c.in-Ok-None.field-0-is at c.in-Ok-None.ensures.next in
+    record {
+      places_are = k.places;
+      end_is = k.end;
+      limit = k.low;
+      reads = λ tells.
+          let so = k.so_far tells in (
+            so.h,
+            so_far_end _ _ _ so k.low (subst (λ (f : List ℕ). IsClosed (drop c.frames.place f)) (k.same tells) (closed tells)),
+            so.lengths_are,
+          );
     }

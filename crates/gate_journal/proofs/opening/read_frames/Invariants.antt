@@ -1,4 +1,5 @@
 use Rattle.std.proofs.Common.{◌≡◌, map, ◌+◌, ◌-◌, ◌≤◌, length, IsTrue}
+use Rattle.std.specs.Prelude.{vec_capacity}
 use Rattle.gate_journal.specs.Journal.{max_journal}
 use Rattle.gate_journal.specs.View.{end_from}
 use Rattle.gate_journal.specs.Inside.{max_write, places_from}
@@ -13,7 +14,7 @@ invariant-frames g l =
     record {
       room : l.place + 1 ≤ l.size;
       low : l.place + 1 ≤ max_journal;
-      buffer : max_write ≤ length l.buffer;
+      buffer : max_write ≤ vec_capacity l.buffer;
       places : map (λ (f : Frame). f.place) l.frames.items ≡ places_from 16 lengths;
       end : l.place ≡ end_from 16 lengths;
       later : d.faults l.fn.disk ≤ d.faults l.disk;
