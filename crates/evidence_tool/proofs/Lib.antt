@@ -11,6 +11,7 @@ pub mod ReplyLemmas
 pub mod RequestLemmas
 pub mod ServingLemmas
 pub mod SessionLemmas
+pub mod SizeLemmas
 pub mod TrialLemmas
 mod StandardFacts
 mod VerifyingLemmas
