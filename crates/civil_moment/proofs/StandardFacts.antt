@@ -1,9 +1,9 @@
 -- Values that the calendar and X.690 give, so that a wrong rule in the specs does not check.
-use Rattle.std.proofs.Common.{◌≡◌, [], ◌∷◌, map, true, false, refl}
+use Rattle.std.proofs.Common.{◌≡◌, [], ◌∷◌, length, map, true, false, refl}
 use Rattle.std.specs.Prelude.{codes, Some, None}
 use Rattle.civil_moment.specs.declared.fault.TimeFault.TheVariants.{Shape, Fraction, Range}
 use Rattle.civil_moment.specs.Calendar.{is_leap, days_of_years, days_of_months, day_number}
-use Rattle.civil_moment.specs.Moment.{seconds_of, nanos_of, time_text}
+use Rattle.civil_moment.specs.Moment.{seconds_of, nanos_of, time_text, longest_time}
 use Rattle.civil_moment.specs.Fault.{first_fault, fields_in, fraction_in}
 
 leap_years : map is_leap (1972 ∷ 1900 ∷ 2000 ∷ 2023 ∷ 2024 ∷ 2100 ∷ 2400 ∷ []) ≡ true ∷ false ∷ true ∷ false ∷ true ∷ false ∷ true ∷ []
@@ -46,3 +46,7 @@ billionths = refl
 
 spelled : time_text (2 ∷ 0 ∷ 2 ∷ 4 ∷ 0 ∷ 2 ∷ 2 ∷ 9 ∷ 0 ∷ 0 ∷ 0 ∷ 0 ∷ 0 ∷ 0 ∷ []) (2 ∷ 5 ∷ []) ≡ codes "20240229000000.25Z"
 spelled = refl
+
+-- the longest: fourteen digits, a point and nine more, and Z
+longest : length (codes "99991231235959.999999999Z") ≡ longest_time
+longest = refl

@@ -1,10 +1,10 @@
 -- No two texts say one moment.
 use Rattle.std.proofs.Common.{◌≡◌, ℕ, zero, suc, ◌+◌, ◌-◌, ◌*◌, ◌<◌, ◌≤◌, Bool, true, false, ◌&&◌, List, [], ◌∷◌, ◌++◌, length, take, drop, length-append, length-drop, length-take-le, refl, sym, ap, ◌∙◌, arith, pos}
-use Rattle.std.specs.Prelude.{◌==◌, nat_eq, nat_lt, nat_le, not, replicate}
+use Rattle.std.specs.Prelude.{◌==◌, nat_eq, nat_lt, nat_le, not, codes, replicate}
 use Rattle.std.specs.List.{ends_with}
 use Rattle.std.specs.Cmp.{first_so, second_so}
 use Rattle.std.specs.Cmp.Lexicographic.{pointwise}
-use Rattle.std.proofs.lemmas.List.{take-append-drop, drop-drop, length-replicate}
+use Rattle.std.proofs.lemmas.List.{take-append-drop, drop-drop, length-map, length-replicate}
 use Rattle.std.proofs.lemmas.List.Folds.{list_all-append}
 use Rattle.std.proofs.lemmas.Bool.Decides.{nat_tests}
 use Rattle.std.proofs.lemmas.Int.{ints}
@@ -12,7 +12,7 @@ use Rattle.jiff_core.specs.declared.civil.date.Date.{Date}
 use Rattle.jiff_core.proofs.DateLemmas.{epoch_day_injective}
 use Rattle.civil_moment.specs.declared.moment.Moment.{Moment}
 use Rattle.civil_moment.specs.Calendar.{is_date, is_time, day_number, second_number}
-use Rattle.civil_moment.specs.Moment.{Text, time_text, number, number_on, are_digits, is_fraction, is_civil, nanos_of, seconds_of, year_of, month_of, day_of, hour_of, minute_of, second_of}
+use Rattle.civil_moment.specs.Moment.{Text, longest_time, digits_text, fraction_text, time_text, number, number_on, are_digits, is_fraction, is_civil, nanos_of, seconds_of, year_of, month_of, day_of, hour_of, minute_of, second_of}
 use Rattle.civil_moment.proofs.Counting.{counted, date_tells}
 
 -- ---- digits by their number
@@ -187,6 +187,19 @@ same_fraction f g a b c d e =
     let same = (same_digits 0 0 (f ++ replicate (9 - length f) 0) (g ++ replicate (9 - length g) 0)
     (filled_length f x.most ∙ sym (filled_length g y.most)) (filled_digits f c) (filled_digits g d) e).1 in
     sym (stripped f (9 - length f) x.last) ∙ ap strip same ∙ stripped g (9 - length g) y.last
+
+-- ---- the length of the text
+
+fraction_length : (f : List ℕ) → length (fraction_text f) ≤ length f + 1
+fraction_length [] = omega arith
+fraction_length (d ∷ f) = omega (arith, length-map f (λ (x : ℕ). 48 + x))
+
+pub time_length : (moment : Moment) (text : List ℕ) → Text text moment → length text ≤ longest_time
+time_length moment text t =
+    let few = (fits t.fraction t.shortest).most in
+    let digits = length-map t.fields (λ (x : ℕ). 48 + x) in
+    let joined = length-append (digits_text t.fields ++ fraction_text t.fraction) (codes "Z") in
+    omega (arith, ap length t.spelled, joined, length-append (digits_text t.fields) (fraction_text t.fraction), digits, t.fourteen, fraction_length t.fraction, few)
 
 -- ---- the text by its moment
 

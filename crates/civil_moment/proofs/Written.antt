@@ -1,5 +1,5 @@
 -- What the writer writes says its moment.
-use Rattle.std.proofs.Common.{◌≡◌, ◌≢◌, ℕ, zero, suc, ◌+◌, ◌-◌, ◌*◌, ◌/◌, ◌%◌, ◌^◌, ◌<◌, ◌≤◌, true, false, ◌&&◌, List, [], ◌∷◌, ◌++◌, length, drop, length-append, refl, sym, ap, subst, ◌∙◌, arith, pos, to_z, of_z, w64}
+use Rattle.std.proofs.Common.{◌≡◌, ◌≢◌, ℕ, zero, suc, ◌+◌, ◌-◌, ◌*◌, ◌/◌, ◌%◌, ◌^◌, ◌<◌, ◌≤◌, true, false, ◌&&◌, List, [], ◌∷◌, ◌++◌, length, drop, length-append, append_assoc, refl, sym, ap, subst, ◌∙◌, arith, pos, to_z, of_z, w64}
 use Rattle.std.specs.Prelude.{nat_eq, nat_lt, nat_le, not, codes, replicate, unsigned_abs}
 use Rattle.std.specs.List.{ends_with}
 use Rattle.std.specs.Cmp.Lexicographic.{pointwise}
@@ -11,7 +11,7 @@ use Rattle.std.proofs.lemmas.Bool.Decides.{nat_tests}
 use Rattle.std.proofs.lemmas.Int.{ints}
 use Rattle.civil_moment.specs.declared.moment.Moment.{Moment}
 use Rattle.civil_moment.specs.Calendar.{is_date, is_time, day_number, second_number}
-use Rattle.civil_moment.specs.Moment.{Text, digits_text, fraction_text, time_text, number, number_on, are_digits, is_fraction, is_civil, seconds_of, year_of, month_of, day_of, hour_of, minute_of, second_of}
+use Rattle.civil_moment.specs.Moment.{Text, AddsTime, digits_text, fraction_text, time_text, number, number_on, are_digits, is_fraction, is_civil, seconds_of, year_of, month_of, day_of, hour_of, minute_of, second_of}
 use Rattle.civil_moment.specs.Inside.{places, shortest}
 use Rattle.civil_moment.proofs.Places.{fraction_less, fraction_whole}
 use Rattle.civil_moment.proofs.Counting.{date_tells}
@@ -202,15 +202,33 @@ written moment text y m d n second date day spelled =
     }
 
 -- the pieces, pushed one after another
-pub pushed : (a b c d e f fraction t0 t1 t2 t3 t4 t5 t6 t7 t8 : List ℕ) → t0 ≡ [] → t1 ≡ t0 ++ digits_text a → t2 ≡ t1 ++ digits_text b → t3 ≡ t2 ++ digits_text c → t4 ≡ t3 ++ digits_text d → t5 ≡ t4 ++ digits_text e → t6 ≡ t5 ++ digits_text f → t7 ≡ t6 ++ fraction_text fraction → t8 ≡ t7 ++ codes "Z" → t8 ≡ time_text (((((a ++ b) ++ c) ++ d) ++ e) ++ f) fraction
-pushed a b c d e f fraction t0 t1 t2 t3 t4 t5 t6 t7 t8 e0 e1 e2 e3 e4 e5 e6 e7 e8 =
-    let one = e1 ∙ ap (λ l. l ++ digits_text a) e0 in
-    let two = e2 ∙ ap (λ l. l ++ digits_text b) one in
+regroup : (t a b c d e f g z : List ℕ) → (((((((t ++ a) ++ b) ++ c) ++ d) ++ e) ++ f) ++ g) ++ z ≡ t ++ (((((((a ++ b) ++ c) ++ d) ++ e) ++ f) ++ g) ++ z)
+regroup t a b c d e f g z = simp append_assoc
+
+pushed : (a b c d e f fraction t0 t1 t2 t3 t4 t5 t6 t7 t8 : List ℕ) → t1 ≡ t0 ++ digits_text a → t2 ≡ t1 ++ digits_text b → t3 ≡ t2 ++ digits_text c → t4 ≡ t3 ++ digits_text d → t5 ≡ t4 ++ digits_text e → t6 ≡ t5 ++ digits_text f → t7 ≡ t6 ++ fraction_text fraction → t8 ≡ t7 ++ codes "Z" → t8 ≡ t0 ++ time_text (((((a ++ b) ++ c) ++ d) ++ e) ++ f) fraction
+pushed a b c d e f fraction t0 t1 t2 t3 t4 t5 t6 t7 t8 e1 e2 e3 e4 e5 e6 e7 e8 =
+    let two = e2 ∙ ap (λ l. l ++ digits_text b) e1 in
     let three = e3 ∙ ap (λ l. l ++ digits_text c) two in
     let four = e4 ∙ ap (λ l. l ++ digits_text d) three in
     let five = e5 ∙ ap (λ l. l ++ digits_text e) four in
-    let six = e6 ∙ ap (λ l. l ++ digits_text f) five ∙ joined a b c d e f in
+    let six = e6 ∙ ap (λ l. l ++ digits_text f) five in
     e8 ∙ ap (λ l. l ++ codes "Z") (e7 ∙ ap (λ l. l ++ fraction_text fraction) six)
+    ∙ regroup t0 (digits_text a) (digits_text b) (digits_text c) (digits_text d) (digits_text e) (digits_text f) (fraction_text fraction) (codes "Z")
+    ∙ ap (λ l. t0 ++ ((l ++ fraction_text fraction) ++ codes "Z")) (joined a b c d e f)
+
+pub added : (moment : Moment) (y m d n : ℕ) (t0 t1 t2 t3 t4 t5 t6 t7 t8 : List ℕ) → moment.seconds ≡ pos n → is_date y m d ≡ true → day_number y m d ≡ n / 86400
+    → t1 ≡ t0 ++ digits_text (places 4 y) → t2 ≡ t1 ++ digits_text (places 2 m) → t3 ≡ t2 ++ digits_text (places 2 d)
+    → t4 ≡ t3 ++ digits_text (places 2 (n % 86400 / 60 / 60)) → t5 ≡ t4 ++ digits_text (places 2 (n % 86400 / 60 % 60)) → t6 ≡ t5 ++ digits_text (places 2 (n % 86400 % 60))
+    → t7 ≡ t6 ++ fraction_text (shortest 9 moment.nanos) → t8 ≡ t7 ++ codes "Z" → AddsTime t0 t8 moment
+added moment y m d n t0 t1 t2 t3 t4 t5 t6 t7 t8 second date day e1 e2 e3 e4 e5 e6 e7 e8 = record {
+  time = time_text (fields_at y m d n) (shortest 9 moment.nanos);
+  says = written moment (time_text (fields_at y m d n) (shortest 9 moment.nanos)) y m d n second date day refl;
+  added = pushed _ _ _ _ _ _ (shortest 9 moment.nanos) t0 t1 t2 t3 t4 t5 t6 t7 t8 e1 e2 e3 e4 e5 e6 e7 e8;
+}
+
+-- behind no text, the time is the text
+pub said : (moment : Moment) (none text : List ℕ) → none ≡ [] → AddsTime none text moment → Text text moment
+said moment none text is a = subst (λ (t : List ℕ). Text t moment) (sym (a.added ∙ ap (λ l. l ++ a.time) is)) a.says
 
 -- the seconds as the writer's unsigned number
 pub unsigned_seconds : (moment : Moment) → moment.seconds ≡ pos (unsigned_abs (to_z w64 (of_z w64 moment.seconds)))

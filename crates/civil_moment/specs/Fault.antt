@@ -27,12 +27,15 @@ has_shape text =
 abbrev pub values : List ℕ → List ℕ
 values = map (λ byte. byte - 48)
 
+-- the values of the fourteen digits in front
 abbrev pub fields_in : List ℕ → List ℕ
 fields_in text = values (take 14 (before_last text))
 
+-- the values of the digits behind the point
 abbrev pub fraction_in : List ℕ → List ℕ
 fraction_in text = values (drop 15 (before_last text))
 
+-- what is first wrong with a text: its shape, its fraction, its date and time, or nothing
 abbrev pub first_fault : List ℕ → Option TimeFault
 first_fault text =
     if not (has_shape text) then Some Shape

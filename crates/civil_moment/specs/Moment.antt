@@ -1,13 +1,14 @@
 -- Generalized time in the one form that DER allows (X.690, 11.7), and the moment that it says.
 use Rattle.std.specs.Prelude.{◌≡◌, ℕ, ◌+◌, ◌-◌, ◌*◌, Bool, not, ◌&&◌, nat_eq, nat_lt, nat_le, IsTrue, List, [], ◌∷◌, ◌++◌, length, take, drop, map, replicate, pos, codes}
 use Rattle.std.specs.List.{list_all, ends_with}
-use Rattle.std.specs.Ordering.{ordering_then, int_cmp, nat_cmp}
+use Rattle.std.specs.Ordering.{ordering_then, int_cmp, nat_cmp, is_lt}
 use Rattle.std.specs.declared.cmp.Ordering.{Ordering}
 use Rattle.civil_moment.specs.declared.moment.Moment.{Moment}
 use Rattle.civil_moment.specs.Calendar.{is_date, day_number, is_time, second_number}
 
 -- ---- digits, by their values
 
+-- each is below 10
 abbrev pub are_digits : List ℕ → Bool
 are_digits = list_all (λ digit. nat_lt digit 10)
 
@@ -16,9 +17,11 @@ abbrev pub number_on : ℕ → List ℕ → ℕ
 number_on number [] = number
 number_on number (digit ∷ rest) = number_on (number * 10 + digit) rest
 
+-- the number that digits say
 abbrev pub number : List ℕ → ℕ
 number = number_on 0
 
+-- the characters of digits
 abbrev pub digits_text : List ℕ → List ℕ
 digits_text = map (λ digit. 48 + digit)
 
@@ -87,8 +90,22 @@ pub record Text (text : List ℕ) (moment : Moment) : Type 0 where
   pub seconds : moment.seconds ≡ pos (seconds_of fields)
   pub nanos : moment.nanos ≡ nanos_of fraction
 
+-- the most bytes of such a text
+abbrev pub longest_time : ℕ
+longest_time = 25
+
+-- a text of the moment was added to another text
+pub record AddsTime (old new : List ℕ) (moment : Moment) : Type 0 where
+  pub time : List ℕ
+  pub says : Text time moment
+  pub added : new ≡ old ++ time
+
 -- ---- the order of moments
 
 -- the seconds decide, and else the billionths
 abbrev pub moment_order : Moment → Moment → Ordering
 moment_order a b = ordering_then (int_cmp a.seconds b.seconds) (nat_cmp a.nanos b.nanos)
+
+-- the first is earlier
+abbrev pub is_before : Moment → Moment → Bool
+is_before a b = is_lt (moment_order a b)

@@ -11,6 +11,6 @@ mod writing;
 
 pub use fault::TimeFault;
 pub use moment::Moment;
-pub use order::moment_cmp;
+pub use order::{is_before, moment_cmp};
 pub use reading::read_generalized;
-pub use writing::write_generalized;
+pub use writing::{add_generalized, write_generalized};

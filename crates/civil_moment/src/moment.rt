@@ -1,4 +1,4 @@
-ghost use Rattle.std.specs.Prelude.{◌≡◌, ◌<◌, pos, ◌≤ℤ◌};
+ghost use Rattle.std.specs.Prelude.{◌<◌, pos, ◌≤ℤ◌};
 
 /// A moment of the years 1970 to 9999 (UTC).
 #[derive(Clone, Copy, Debug, PartialEq, Eq)]

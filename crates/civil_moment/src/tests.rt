@@ -1,4 +1,4 @@
-use crate::{Moment, TimeFault, moment_cmp, read_generalized, write_generalized};
+use crate::{Moment, TimeFault, is_before, moment_cmp, read_generalized, write_generalized};
 use std::cmp::Ordering;
 use std::test::Fail;
 
@@ -57,4 +57,5 @@ fn the_seconds_decide_before_the_billionths(rt: HostRuntime) {
     assert_eq!(rt; moment_cmp(&earlier, &later), Ordering::Less);
     assert_eq!(rt; moment_cmp(&later, &earlier), Ordering::Greater);
     assert_eq!(rt; moment_cmp(&later, &later), Ordering::Equal);
+    assert!(rt; is_before(&earlier, &later) && !is_before(&later, &later));
 }

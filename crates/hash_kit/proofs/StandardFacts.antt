@@ -1,8 +1,8 @@
 -- Worked values of the definitions, from the standards, so that a wrong rule in the specs does not check.
-use Rattle.std.proofs.Common.{◌≡◌, ℕ, ◌+◌, ◌-◌, ◌*◌, List, [], ◌∷◌, refl, if◌then◌else◌}
-use Rattle.std.specs.Prelude.{Some, None, nat_lt, replicate}
+use Rattle.std.proofs.Common.{◌≡◌, ℕ, ◌+◌, ◌-◌, ◌*◌, List, [], ◌∷◌, map, refl, if◌then◌else◌}
+use Rattle.std.specs.Prelude.{Some, None, codes, nat_lt, replicate}
 use Rattle.hash_kit.specs.declared.algorithm.HashAlg.TheVariants.{Sha256, Sha384, Sha512}
-use Rattle.hash_kit.specs.Algorithm.{oid_of, algorithm_of}
+use Rattle.hash_kit.specs.Algorithm.{algorithms, place_of, oid_of, algorithm_of, algorithm_named}
 use Rattle.hash_kit.specs.Digest.{size_of}
 use Rattle.hash_kit.specs.HssKey.{levels_of, top_key_of, lms_type_of, ots_type_of, key_fault}
 use Rattle.hash_kit.specs.Node.{ascending, node_of}
@@ -33,6 +33,13 @@ cut_unknown = refl
 
 sha384_known : algorithm_of (0x60 ∷ 0x86 ∷ 0x48 ∷ 0x01 ∷ 0x65 ∷ 0x03 ∷ 0x04 ∷ 0x02 ∷ 0x02 ∷ []) ≡ Some Sha384
 sha384_known = refl
+
+-- the words, in lower case alone, and the order
+words_named : map algorithm_named (codes "sha256" ∷ codes "sha384" ∷ codes "sha512" ∷ codes "SHA256" ∷ codes "sha1" ∷ []) ≡ Some Sha256 ∷ Some Sha384 ∷ Some Sha512 ∷ None ∷ None ∷ []
+words_named = refl
+
+places : map place_of algorithms ≡ 0 ∷ 1 ∷ 2 ∷ []
+places = refl
 
 -- the sizes in bits (FIPS 180-4, figure 1)
 bits_256 : size_of Sha256 * 8 ≡ 256

@@ -7,6 +7,7 @@ use Rattle.hash_kit.specs.declared.hashing.Hasher.{Hasher}
 use Rattle.hash_kit.specs.declared.hashing.State.{State}
 use Rattle.hash_kit.specs.declared.hashing.State.TheVariants.{Sha256 as State256, Sha384 as State384, Sha512 as State512}
 
+-- a hasher of the library for this algorithm has taken in this message
 abbrev pub IsState : State → HashAlg → List ℕ → Type 0
 IsState (State256 hasher) alg message = (alg ≡ Sha256) × Holds256 hasher message
 IsState (State384 hasher) alg message = (alg ≡ Sha384) × Holds384 hasher message

@@ -13,12 +13,15 @@ u32_at place bytes = from_be_bytes w32 (drop place bytes)
 abbrev pub lms_type_of : List ℕ → ℕ
 lms_type_of key = u32_at 0 key
 
+-- the LM-OTS type of an LMS public key (5.3)
 abbrev pub ots_type_of : List ℕ → ℕ
 ots_type_of key = u32_at 4 key
 
+-- its identifier I (5.3)
 abbrev pub identifier_of : List ℕ → List ℕ
 identifier_of key = take 16 (drop 8 key)
 
+-- its root T[1] (5.3)
 abbrev pub root_of : List ℕ → List ℕ
 root_of key = take 32 (drop 24 key)
 
@@ -30,6 +33,7 @@ is_lms_type n = nat_lt 4 n && nat_lt n 10
 abbrev pub is_ots_type : ℕ → Bool
 is_ots_type n = nat_lt 0 n && nat_lt n 5
 
+-- both types are known
 abbrev pub has_types : List ℕ → Bool
 has_types key = is_lms_type (lms_type_of key) && is_ots_type (ots_type_of key)
 
@@ -41,6 +45,7 @@ is_lms_key key = (length key == 56) && has_types key
 abbrev pub levels_of : List ℕ → ℕ
 levels_of key = u32_at 0 key
 
+-- the LMS public key of the top tree (6.1)
 abbrev pub top_key_of : List ℕ → List ℕ
 top_key_of key = drop 4 key
 

@@ -1,11 +1,9 @@
-ghost use Rattle.std.specs.Prelude.{◌≡◌, ◌↔◌, ◌+◌, ◌<◌, ◌≤◌, length, Some, IfOk, Err, nat_eq, refl};
+ghost use Rattle.std.specs.Prelude.{◌≡◌, ◌↔◌, ◌+◌, ◌<◌, ◌≤◌, length, Some, IfOk, Err, nat_eq};
 ghost use Rattle.std.specs.Cmp.{partial_equiv_from_equiv};
-ghost use Rattle.std.specs.Cmp.Lexicographic.{pointwise, slice_cmp, nat_list_eq_equiv, nat_list_cmp_total, texts_po, texts_ties};
-ghost use Rattle.std.specs.Ordering.{nat_cmp};
+ghost use Rattle.std.specs.Cmp.Lexicographic.{pointwise, nat_list_eq_equiv};
 ghost use Rattle.hash_kit.specs.HssKey.{u32_at, has_types, has_levels, levels_of, top_key_of, key_fault};
 ghost use Rattle.hash_kit.specs.declared.key.KeyFault.{KeyFault};
 
-use std::cmp::Ordering;
 use std::marker::Model;
 
 /// The bytes of an HSS public key.
@@ -21,7 +19,7 @@ pub enum KeyFault {
 }
 
 /// An HSS public key (RFC 8554, section 6.1), seen as its 60 bytes. Its types are those with SHA-256 and values of 32
-/// bytes: 5 to 9 of LMS, 1 to 4 of LM-OTS. Keys are ordered as byte strings.
+/// bytes: 5 to 9 of LMS, 1 to 4 of LM-OTS.
 #[derive(Clone, Copy, Debug, Drop)]
 pub struct HssPublic {
     key: [u8; 60],
@@ -128,28 +126,4 @@ impl PartialEq for HssPublic {
 
 impl Eq for HssPublic {
     ghost laws = { nat_list_eq_equiv };
-}
-
-impl PartialOrd for HssPublic {
-    ghost partial_cmp = { λ a b. Some (slice_cmp nat_cmp a b) };
-
-    ghost laws = { texts_po };
-
-    fn partial_cmp(&self, other: &Self) -> Option<Ordering> {
-        Some(self.cmp(other))
-    }
-}
-
-impl Ord for HssPublic {
-    ghost cmp = { λ a b. slice_cmp nat_cmp a b };
-
-    ghost total = { nat_list_cmp_total };
-
-    ghost matches_partial_cmp = { λ a b. refl };
-
-    ghost matches_eq = { λ a b. texts_ties a b };
-
-    fn cmp(&self, other: &Self) -> Ordering {
-        self.bytes().cmp(other.bytes())
-    }
 }

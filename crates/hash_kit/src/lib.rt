@@ -5,7 +5,7 @@
 mod algorithm;
 mod hashing;
 mod key;
-mod laws;
+pub mod laws;
 mod nodes;
 #[cfg(test)]
 mod tests;
@@ -14,6 +14,5 @@ mod value;
 pub use algorithm::HashAlg;
 pub use hashing::{Hasher, digest};
 pub use key::{HssPublic, KeyFault, has_types, u32_at};
-pub use laws::ascending_list_is_the_only_one;
 pub use nodes::node;
 pub use value::HashValue;
