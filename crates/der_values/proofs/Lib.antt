@@ -7,4 +7,7 @@ pub mod Sound
 pub mod Meaning
 pub mod Padded
 pub mod Written
+pub mod Lengths
+pub mod Anywhere
+pub mod Accepted
 mod StandardFacts

@@ -1,14 +1,18 @@
 -- Reading and grammar lead to each other, and bytes have one meaning.
-use Rattle.std.proofs.Common.{◌≡◌, ℕ, Bool, true, false, List, Result, Ok, Err, sym, ap, ◌∙◌}
+use Rattle.std.proofs.Common.{◌≡◌, ℕ, Bool, true, false, List, Option, Some, None, Result, Ok, Err, refl, sym, ap, ◌∙◌}
 use Rattle.std.specs.Prelude.{IfOk, IsOkAnd}
 use Rattle.der_values.specs.Input.{Input}
 use Rattle.der_values.specs.Shape.{Shape, Checks, Parts}
-use Rattle.der_values.specs.Reading.{Reading, read, Found, Finds, Unless, FindsUnless, AnswersUnless}
+use Rattle.der_values.specs.Reading.{Reading, read, first, Found, Finds, Unless, FindsUnless, AnswersUnless}
 use Rattle.der_values.specs.Grammar.{Means}
 use Rattle.der_values.proofs.Octets.{IsBytes}
 use Rattle.der_values.proofs.Values.{ok_is}
 use Rattle.der_values.proofs.Sound.{takes}
 use Rattle.der_values.proofs.Again.{again}
+
+abbrev fault_in : {P S F : Type 0} → Reading P S F → Option F
+fault_in (Ok x) = None
+fault_in (Err e) = Some e
 
 unless_map : {A B : Type 0} (b : Bool) → (A → B) → Unless b A → Unless b B
 unless_map true f u = tt
@@ -41,6 +45,16 @@ module _ {C S F V : Type 0} (k : Checks C S F) (s : Shape C) (σ : S) (f : Parts
     differ : (r : Reading (Parts s) S F) (y : Parts s × S) → r ≡ Err e → r ≡ Ok y → ⊥
     differ (Ok x) y p q = cc
     differ (Err d) y p q = cc
+
+  -- bytes have a first fault or a meaning
+  pub free_means : IsBytes input.left → first k s σ input ≡ None → (v : V) × Means k s σ f input v
+  free_means fits none = by_reading (read k s σ input) refl none where
+    by_reading : (r : Reading (Parts s) S F) → read k s σ input ≡ r → fault_in r ≡ None → (v : V) × Means k s σ f input v
+    by_reading (Ok x) is free = (f x.0 x.1, found_means (f x.0 x.1) fits (record { parts = x.0; state = x.1; is = is; named = refl }))
+    by_reading (Err e) is free = absurd cc
+
+  pub means_free : (v : V) → Means k s σ f input v → first k s σ input ≡ None
+  means_free v m = ap (λ (r : Reading (Parts s) S F). fault_in r) (means_found v m).is
 
   -- the clauses of a reader, from what it finds
   pub is_meant : {X : Type 0} (view : X → V) (r : Result X F) → IsBytes input.left → Finds f view r (read k s σ input) → IfOk r (λ x. Means k s σ f input (view x))

@@ -8,19 +8,18 @@ use Rattle.std.specs.Ordering.{is_gt}
 use Rattle.std.specs.Str.{bytes_eq}
 use Rattle.der_values.specs.declared.fault.DerFault.{DerFault}
 use Rattle.der_values.specs.declared.fault.DerKind.TheVariants.{BadValue}
-use Rattle.der_values.specs.declared.algorithm.AlgName.{AlgName}
 use Rattle.der_values.specs.declared.example.Catalogue.{Catalogue}
 use Rattle.der_values.specs.declared.example.CatalogueFault.{CatalogueFault}
 use Rattle.der_values.specs.declared.example.CatalogueKind.{CatalogueKind}
 use Rattle.der_values.specs.declared.example.CatalogueKind.TheVariants.{Der, UnknownHash, KeyOrder}
-use Rattle.der_values.specs.Input.{Input, Item}
+use Rattle.der_values.specs.Input.{Item}
 use Rattle.der_values.specs.Value.{value}
 use Rattle.der_values.specs.Steps.{◌>>=◌, lift}
 use Rattle.der_values.specs.Next.{contents}
 use Rattle.der_values.specs.Typed.{boolean_of}
 use Rattle.der_values.specs.Order.{set_order_of}
 use Rattle.der_values.specs.Shape.{tagged, unchecked, checked, checked_whole, Shape, nothing_more, unread, required, optional, repeated, Checks, spell}
-use Rattle.der_values.specs.Reading.{Reading, body, read_each, read, first}
+use Rattle.der_values.specs.Reading.{first}
 use Rattle.der_values.specs.Grammar.{Means, from_start}
 use Rattle.der_values.specs.Algorithm.{Name, name_of, name_seen, algorithm_of, algorithm_shape, AlgorithmParts}
 
@@ -32,17 +31,17 @@ pub data CatalogueCheck : Type 0 where
   key_in_order : CatalogueCheck
 
 abbrev pub keys_shape : Shape CatalogueCheck
-keys_shape = repeated (tagged 4) (checked key_in_order) unread nothing_more
+keys_shape = repeated (tagged 0x04) (checked key_in_order) unread nothing_more
 
 abbrev pub catalogue_contents : Shape CatalogueCheck
 catalogue_contents =
-    required (tagged 48) (checked_whole hash_known) algorithm_shape (
-    optional (tagged 1) (checked is_true) unread (
-    required (tagged 48) unchecked keys_shape
+    required (tagged 0x30) (checked_whole hash_known) algorithm_shape (
+    optional (tagged 0x01) (checked is_true) unread (
+    required (tagged 0x30) unchecked keys_shape
     nothing_more))
 
 abbrev pub catalogue_shape : Shape CatalogueCheck
-catalogue_shape = required (tagged 48) unchecked catalogue_contents nothing_more
+catalogue_shape = required (tagged 0x30) unchecked catalogue_contents nothing_more
 
 -- ---- 2. what the checks mean; the state is the encoding of the key before
 
@@ -62,23 +61,29 @@ catalogue_fault place kind = Err (record { place = place; kind = kind })
 abbrev pub sha256 : List ℕ
 sha256 = 96 ∷ 134 ∷ 72 ∷ 1 ∷ 101 ∷ 3 ∷ 4 ∷ 2 ∷ 1 ∷ []
 
+-- the name is id-sha256, without parameters
 abbrev pub is_sha256 : Name → Bool
 is_sha256 name = bytes_eq name.oid sha256 && is_none name.params
 
+-- the hash is id-sha256 without parameters
 unfoldable pub known_hash : State → Item → Result State CatalogueFault
 known_hash before v = lift der (algorithm_of (contents v)) >>= λ x. if is_sha256 (name_of x.0) then Ok before else catalogue_fault v.place UnknownHash
 
+-- a BOOLEAN that is TRUE
 unfoldable pub true_of : Item → Result (Unit {0}) CatalogueFault
 true_of v = lift der (boolean_of v) >>= λ b. if b then Ok tt else catalogue_fault v.place (Der BadValue)
 
+-- a key that isn't below the one before
 unfoldable pub key_after : State → Item → Result State CatalogueFault
 key_after before v = if is_gt (set_order_of before (value v.tag v.content)) then catalogue_fault v.place KeyOrder else Ok (value v.tag v.content)
 
+-- the check of each name, on a value
 abbrev pub judge : CatalogueCheck → State → Item → Result State CatalogueFault
 judge hash_known before v = known_hash before v
 judge is_true before v = true_of v >>= λ u. Ok before
 judge key_in_order before v = key_after before v
 
+-- what the names of the checks mean
 abbrev pub catalogue_checks : Checks CatalogueCheck State CatalogueFault
 catalogue_checks = record { der = der; at_value = judge; at_point = λ c before input. Ok before; holds = λ c before. false }
 
@@ -98,37 +103,13 @@ parts_of p = record { hash = name_of p.0; is_complete = is_some p.1.0; keys = le
 abbrev pub parts_seen : Catalogue → Parts
 parts_seen c = record { hash = name_seen c.hash; is_complete = c.is_complete; keys = c.keys }
 
--- the name of the hash, with the state after it
-abbrev pub hash_named : AlgorithmParts → State → Name × State
-hash_named p before = (name_of p, before)
-
-abbrev pub hash_seen : AlgName → Name × State
-hash_seen a = (name_seen a, start)
-
--- ---- 4. its readings, its grammar, its first fault
-
-abbrev pub hash_at : State → Item → Reading AlgorithmParts State CatalogueFault
-hash_at before v = body catalogue_checks (tagged 48) (checked_whole hash_known) (read catalogue_checks algorithm_shape) before v
-
-abbrev pub key_at : State → Item → Reading (List ℕ) State CatalogueFault
-key_at before v = body catalogue_checks (tagged 4) (checked key_in_order) (read catalogue_checks unread) before v
-
-abbrev pub each_key : Input → Reading (List (List ℕ)) State CatalogueFault
-each_key input = read_each der (tagged 4) key_at (length input.left) start input
-
-abbrev pub keys_at : State → Item → Reading (List (List ℕ) × Unit {0}) State CatalogueFault
-keys_at before v = body catalogue_checks (tagged 48) unchecked (read catalogue_checks keys_shape) before v
-
-abbrev pub contents_at : Input → Reading ContentsParts State CatalogueFault
-contents_at input = read catalogue_checks catalogue_contents start input
-
-abbrev pub catalogue_at : Input → Reading (ContentsParts × Unit {0}) State CatalogueFault
-catalogue_at input = read catalogue_checks catalogue_shape start input
+-- ---- 4. its grammar, its first fault
 
 -- The bytes are a catalogue with these parts.
 abbrev pub ReadsCatalogue : List ℕ → Parts → Type 0
 ReadsCatalogue bytes parts = Means catalogue_checks catalogue_shape start (λ p before. parts_of p.0) (from_start bytes) parts
 
+-- the first fault of the bytes as a catalogue, or none
 abbrev pub first_fault : List ℕ → Option CatalogueFault
 first_fault bytes = first catalogue_checks catalogue_shape start (from_start bytes)
 

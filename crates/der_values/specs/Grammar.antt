@@ -7,10 +7,12 @@ use Rattle.der_values.specs.Next.{contents}
 use Rattle.der_values.specs.Shape.{Tags, any_tag, tagged, Check, Shape, nothing_more, unread, required, optional, repeated, checkpoint, depending, Checks, Part, Parts, spell_part, spell_optional, spell}
 use Rattle.der_values.specs.Reading.{starts, at_header, at_end}
 
+-- the tag of a part: that of the shape, or its own where the shape leaves it open
 abbrev pub tag_of : (P : Type 0) → (tags : Tags) → Part tags P → ℕ
 tag_of P any_tag q = q.0
 tag_of P (tagged tag) q = tag
 
+-- the contents of a part, without its tag
 abbrev pub inside_of : {P : Type 0} → (tags : Tags) → Part tags P → P
 inside_of any_tag q = q.1
 inside_of (tagged tag) q = q
@@ -38,10 +40,12 @@ abbrev pub ValidOptional : {Q S : Type 0} → Leading Q S → Bool → Leading (
 ValidOptional V taken σ place None τ = (taken ≡ false) × (σ ≡ τ)
 ValidOptional V taken σ place (Some q) τ = V σ place q τ
 
+-- each part is valid, from the place and the state where the one before ended
 abbrev pub ValidAll : {Q S : Type 0} → Leading Q S → (Q → List ℕ) → S → ℕ → List Q → S → Type 0
 ValidAll V text σ place [] τ = σ ≡ τ
 ValidAll {S = S} V text σ place (q ∷ qs) τ = (σ1 : S) × V σ place q σ1 × ValidAll V text σ1 (place + length (text q)) qs τ
 
+-- from a state, these parts of a shape have a spelling at a place, and lead to a state
 unfoldable pub Valid : {C S F : Type 0} → Checks C S F → (s : Shape C) → S → ℕ → Parts s → S → Type 0
 Valid k nothing_more σ place p τ = σ ≡ τ
 Valid k unread σ place p τ = σ ≡ τ

@@ -42,6 +42,7 @@ next_of input = value_at input.place input.left >>= λ x.
 unfoldable pub expect_of : ℕ → Input → Result (Item × Input) DerFault
 expect_of tag input = next_of input >>= λ v. if v.0.tag == tag then Ok v else fault input.place WrongTag
 
+-- nothing is left
 abbrev pub is_empty : List ℕ → Bool
 is_empty [] = true
 is_empty (b ∷ bs) = false
@@ -56,6 +57,7 @@ contents v = record { place = v.place + (length (value v.tag v.content) - length
 
 -- ---- a value in memory
 
+-- what a Tlv says
 abbrev pub seen : Tlv → Item
 seen t = record { place = t.place; tag = t.tag; content = t.content.now }
 

@@ -56,6 +56,7 @@ at_end k (checked_whole c) σ v = k.at_value c σ v
 abbrev pub body : {C S F P : Type 0} → Checks C S F → (tags : Tags) → Check C → (S → Input → Reading P S F) → S → Item → Reading (Part tags P) S F
 body k tags c inner σ v = at_header k c σ v >>= λ σ1. inner σ1 (contents v) >>= λ x. at_end k c x.1 v >>= λ τ. Ok (part tags v.tag x.0, τ)
 
+-- an optional value whose header was read, where it is there
 abbrev pub body_optional : {P S F : Type 0} → (S → Item → Reading P S F) → S → Option Item → Reading (Option P) S F
 body_optional each σ None = Ok (None, σ)
 body_optional each σ (Some v) = each σ v >>= λ x. Ok (Some x.0, x.1)
@@ -82,9 +83,11 @@ end_of input = record { place = input.place + length input.left; left = [] }
 abbrev pub beside : {P Q S F : Type 0} → P → Reading Q S F → Reading (P × Q) S F
 beside p r = r >>= λ y. Ok ((p, y.0), y.1)
 
+-- the parts of one of two shapes
 abbrev pub either : {P Q S F : Type 0} → (P → Q) → Reading P S F → Reading Q S F
 either f r = r >>= λ x. Ok (f x.0, x.1)
 
+-- the parts that the input has by a shape, with the state after them, or the first fault
 unfoldable pub read : {C S F : Type 0} → Checks C S F → (s : Shape C) → S → Input → Reading (Parts s) S F
 read k nothing_more σ input = lift k.der (finish_of input) >>= λ u. Ok (tt, σ)
 read k unread σ input = Ok (input.left, σ)

@@ -56,10 +56,12 @@ abbrev pub Part : Tags → Type 0 → Type 0
 Part any_tag P = ℕ × P
 Part (tagged tag) P = P
 
+-- the contents with their tag, where the shape leaves it open
 abbrev pub part : {P : Type 0} → (tags : Tags) → ℕ → P → Part tags P
 part any_tag tag p = (tag, p)
 part (tagged t) tag p = p
 
+-- what a reading by a shape gives: the parts of its values, in order
 abbrev pub Parts : {C : Type 0} → Shape C → Type 0
 Parts nothing_more = Unit {0}
 Parts unread = List ℕ

@@ -3,6 +3,7 @@ use Rattle.std.specs.Prelude.{◌≡◌, ℕ, Result, Ok, Err}
 use Rattle.der_values.specs.declared.fault.DerFault.{DerFault}
 use Rattle.der_values.specs.declared.fault.DerKind.{DerKind}
 
+-- a fault of this kind at this place
 abbrev pub fault : {A : Type 0} → ℕ → DerKind → Result A DerFault
 fault place kind = Err (record { place = place; kind = kind })
 

@@ -1,5 +1,5 @@
 -- The one spelling of a value in DER: an identifier octet, the length in the fewest octets, the contents.
-use Rattle.std.specs.Prelude.{◌≡◌, ◌≢◌, ℕ, zero, suc, ◌+◌, ◌*◌, ◌/◌, ◌%◌, ◌^◌, ◌<◌, List, [], ◌∷◌, ◌++◌, length, nat_lt, if◌then◌else◌}
+use Rattle.std.specs.Prelude.{◌≡◌, ◌≢◌, ℕ, zero, suc, ◌+◌, ◌*◌, ◌/◌, ◌%◌, ◌^◌, ◌<◌, List, [], ◌∷◌, ◌++◌, length, Option, Some, None, nat_lt, if◌then◌else◌}
 
 -- the k low octets of n, the most significant first
 abbrev pub octets : ℕ → ℕ → List ℕ
@@ -33,6 +33,11 @@ pub record Spells (bytes : List ℕ) (tag : ℕ) (content : List ℕ) : Type 0 w
   pub low_tag : tag % 32 ≢ 31
   pub short : length content < 2 ^ 32
   pub is : bytes ≡ value tag content
+
+-- the bytes of an optional part: none where it is absent
+abbrev pub bytes_or_none : Option (List ℕ) → List ℕ
+bytes_or_none None = []
+bytes_or_none (Some bytes) = bytes
 
 -- The bytes begin with a value.
 pub record BeginsWithValue (bytes : List ℕ) : Type 0 where

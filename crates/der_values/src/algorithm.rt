@@ -1,8 +1,9 @@
-ghost use Rattle.std.specs.Prelude.{◌≡◌, ◌<◌, ℕ, slice_index, IfOk, IsOkAnd};
+ghost use Rattle.std.specs.Prelude.{◌≡◌, IfOk, IsOkAnd};
 ghost use Rattle.der_values.specs.Next.{contents, seen, IsValue};
 ghost use Rattle.der_values.specs.Reading.{Finds};
-ghost use Rattle.der_values.specs.Algorithm.{Name, name_of, name_seen, algorithm_of, IsAlgorithm};
+ghost use Rattle.der_values.specs.Algorithm.{Name, name_of, name_seen, algorithm_of, IsAlgorithm, are_none_or_null};
 
+use crate::bytes::are_octets;
 use crate::fault::DerFault;
 use crate::tlv::{Tlv, whole_of};
 use crate::typed::read_oid;
@@ -14,10 +15,20 @@ pub struct AlgName<'a> {
     pub params: Option<&'a [u8]>,
 }
 
-// That bytes are below 256 is known of a slice that is passed, and not of one in a struct.
-fn are_octets(bytes: &[u8])
-    ensures { (i : ℕ) → slice_index bytes.now i < 256 }
-{}
+// NULL in its two bytes.
+const NULL: [u8; 2] = [0x05, 0x00];
+
+impl<'a> AlgName<'a> {
+    /// Whether its parameters are absent or NULL, as those of a hash algorithm are (RFC 5754, 2).
+    pub fn has_no_parameters(&self) -> bool
+        ensures { result ≡ are_none_or_null (name_seen self.now).params }
+    {
+        match self.params {
+            None => true,
+            Some(params) => params == NULL.as_slice(),
+        }
+    }
+}
 
 // What stands in the SEQUENCE, by its table.
 #[tactic(auto, using(crate::proofs::Passed::optional_passed, crate::proofs::Passed::passed_whole), unfolding(crate::specs::Reading::read, crate::specs::Algorithm::algorithm_of))]

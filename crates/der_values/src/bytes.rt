@@ -1,5 +1,6 @@
-ghost use Rattle.std.specs.Prelude.{◌≡◌};
+ghost use Rattle.std.specs.Prelude.{◌≡◌, ◌<◌, ℕ, replicate, slice_index, vec_len, IfOk};
 
+use std::alloc::{AllocError, Global};
 use std::marker::Model;
 
 /// A byte string that is owned. Contracts see it as the list of its bytes.
@@ -39,3 +40,17 @@ impl Bytes {
         items
     }
 }
+
+/// So many zeros. The size is a parameter, so that no proof writes out a list of so many.
+pub fn zeros(alloc: Global, size: usize) -> Result<Vec<u8>, AllocError>
+    ensures zeros { IfOk result (λ bytes. bytes.items ≡ replicate size 0) }
+    ensures len { IfOk result (λ bytes. vec_len bytes ≡ size) }
+{
+    vec![in alloc; 0; size]
+}
+
+/// That bytes are below 256. It is known of a slice that is passed, and not of one in a struct: a proof that needs it
+/// of such a slice passes it here, and nothing is done.
+pub fn are_octets(bytes: &[u8])
+    ensures { (i : ℕ) → slice_index bytes.now i < 256 }
+{}

@@ -2,14 +2,14 @@
 
 ghost use Rattle.std.specs.Prelude.{◌≡◌, ◌<◌, ◌^◌, ◌++◌, ℕ, List, [], length, Some, OnOk, OnErr, IfOk, IfErr, IfSome, IsOkAnd};
 ghost use Rattle.std.specs.Option.{option_map};
-ghost use Rattle.der_values.specs.Value.{value};
 ghost use Rattle.der_values.specs.Steps.{Gives};
 ghost use Rattle.der_values.specs.Next.{contents, seen, IsValue};
 ghost use Rattle.der_values.specs.Shape.{checked};
 ghost use Rattle.der_values.specs.Reading.{check_optional, Finds};
 ghost use Rattle.der_values.specs.Grammar.{from_start};
-ghost use Rattle.der_values.specs.Algorithm.{name_of, name_seen};
-ghost use Rattle.der_values.specs.Example.{is_true, catalogue_checks, start, is_sha256, hash_named, hash_seen, hash_at, true_of, key_after, each_key, keys_at, parts_of, parts_seen, contents_at, catalogue_at, Parts, ReadsCatalogue, first_fault, one_key_text, one_key_parts};
+ghost use Rattle.der_values.specs.Algorithm.{name_seen};
+ghost use Rattle.der_values.specs.Example.{is_true, catalogue_checks, start, is_sha256, true_of, key_after, parts_of, parts_seen, Parts, ReadsCatalogue, first_fault, one_key_text, one_key_parts};
+ghost use Rattle.der_values.specs.Inside.{hash_named, hash_seen, hash_at, each_key, keys_at, contents_at, catalogue_at};
 
 use crate::algorithm::{AlgName, read_algorithm};
 use crate::fault::{DerFault, DerKind};

@@ -1,3 +1,5 @@
+ghost use Rattle.std.specs.Prelude.{◌≡◌};
+
 /// What is wrong with the bytes, in the order of the checks on a value.
 #[derive(Clone, Copy, Debug, PartialEq, Eq)]
 pub enum DerKind {
@@ -24,4 +26,13 @@ pub enum DerKind {
 pub struct DerFault {
     pub place: u64,
     pub kind: DerKind,
+}
+
+impl DerFault {
+    /// The fault of this kind at the place.
+    pub fn at(place: u64, kind: DerKind) -> DerFault
+        ensures { result ≡ record { place = place; kind = kind } }
+    {
+        DerFault { place, kind }
+    }
 }

@@ -44,18 +44,12 @@ fn long_length(bytes: &[u8], count: usize, place: u64) -> Result<(u32, &[u8]), D
     ensures shorter { IfOk result (λ x. length x.1.now ≤ length bytes.now) }
 {
     if bytes.len() < count {
-        return Err(DerFault {
-            place: place + 1 + bytes.len() as u64,
-            kind: DerKind::Truncated,
-        });
+        return Err(DerFault::at(place + 1 + bytes.len() as u64, DerKind::Truncated));
     }
     let (octets, rest) = bytes.split_at(count);
     let len = number_of(octets);
     if extra_of(len) != count {
-        return Err(DerFault {
-            place,
-            kind: DerKind::NotMinimal,
-        });
+        return Err(DerFault::at(place, DerKind::NotMinimal));
     }
     Ok((len, rest))
 }
@@ -67,20 +61,11 @@ fn length_of(bytes: &[u8], place: u64) -> Result<(u32, &[u8]), DerFault>
     ensures shorter { IfOk result (λ x. length x.1.now ≤ length bytes.now) }
 {
     match bytes {
-        [] => Err(DerFault {
-            place,
-            kind: DerKind::Truncated,
-        }),
+        [] => Err(DerFault::at(place, DerKind::Truncated)),
         [first @ 0..0x80, rest @ ..] => Ok((*first as u32, rest)),
-        [0x80, ..] => Err(DerFault {
-            place,
-            kind: DerKind::Indefinite,
-        }),
+        [0x80, ..] => Err(DerFault::at(place, DerKind::Indefinite)),
         [first @ 0x81..=0x84, rest @ ..] => long_length(rest, (*first - 0x80) as usize, place),
-        _ => Err(DerFault {
-            place,
-            kind: DerKind::LongForm,
-        }),
+        _ => Err(DerFault::at(place, DerKind::LongForm)),
     }
 }
 
@@ -93,23 +78,14 @@ fn parts_of(bytes: &[u8], place: u64) -> Result<(u8, &[u8], &[u8]), DerFault>
     ensures first { IfOk result (λ x. slice_get bytes.now 0 ≡ Some x.0) }
 {
     let [tag, after @ ..] = bytes else {
-        return Err(DerFault {
-            place,
-            kind: DerKind::Truncated,
-        });
+        return Err(DerFault::at(place, DerKind::Truncated));
     };
     if *tag % 32 == 31 {
-        return Err(DerFault {
-            place,
-            kind: DerKind::HighTag,
-        });
+        return Err(DerFault::at(place, DerKind::HighTag));
     }
     let (len, rest) = length_of(after, place + 1)?;
     if rest.len() < len as usize {
-        return Err(DerFault {
-            place: place + bytes.len() as u64,
-            kind: DerKind::Truncated,
-        });
+        return Err(DerFault::at(place + bytes.len() as u64, DerKind::Truncated));
     }
     let (content, rest) = rest.split_at(len as usize);
     Ok((*tag, content, rest))

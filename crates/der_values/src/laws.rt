@@ -1,11 +1,11 @@
 //! Laws of the definitions that the crate's contracts cite. Each function has an empty body: its clause is the law.
 
-ghost use Rattle.std.specs.Prelude.{◌≡◌, ◌≢◌, ◌+◌, ◌%◌, ◌^◌, ◌<◌, ◌++◌, ℕ, List, length, slice_index, Ok};
-ghost use Rattle.der_values.specs.Input.{Input, Item};
+ghost use Rattle.std.specs.Prelude.{◌≡◌, ◌≢◌, ◌+◌, ◌%◌, ◌^◌, ◌<◌, ◌++◌, ℕ, List, length, slice_index, None, Ok};
+ghost use Rattle.der_values.specs.Input.{Input};
 ghost use Rattle.der_values.specs.Value.{value, Spells};
 ghost use Rattle.der_values.specs.Next.{next_of};
 ghost use Rattle.der_values.specs.Shape.{Shape, Checks, Parts, spell};
-ghost use Rattle.der_values.specs.Reading.{Reading, read};
+ghost use Rattle.der_values.specs.Reading.{read, first};
 ghost use Rattle.der_values.specs.Grammar.{Valid, Means};
 
 /// No bytes spell two values, and no spelling begins another.
@@ -31,4 +31,14 @@ pub fn what_is_spelled_is_read<C, S, F>()
 /// By one shape no bytes mean two things.
 pub fn bytes_have_one_meaning<C, S, F, V>()
     ensures { (k : Checks C S F) (s : Shape C) (σ : S) (f : Parts s → S → V) (input : Input) (v w : V) → Means k s σ f input v → Means k s σ f input w → v ≡ w }
+{}
+
+/// Every string of bytes is read or has a first fault: where it has none, it has a meaning.
+pub fn bytes_without_a_first_fault_have_a_meaning<C, S, F, V>()
+    ensures { (k : Checks C S F) (s : Shape C) (σ : S) (f : Parts s → S → V) (input : Input) → ((i : ℕ) → slice_index input.left i < 256) → first k s σ input ≡ None → (v : V) × Means k s σ f input v }
+{}
+
+/// And never both: bytes that have a meaning have no first fault.
+pub fn bytes_with_a_meaning_have_no_first_fault<C, S, F, V>()
+    ensures { (k : Checks C S F) (s : Shape C) (σ : S) (f : Parts s → S → V) (input : Input) (v : V) → Means k s σ f input v → first k s σ input ≡ None }
 {}

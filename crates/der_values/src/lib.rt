@@ -15,14 +15,14 @@ mod typed;
 mod writing;
 
 pub use algorithm::{AlgName, read_algorithm};
-pub use bytes::Bytes;
+pub use bytes::{Bytes, are_octets, zeros};
 pub use fault::{DerFault, DerKind};
 pub use items::Items;
 pub use order::set_order;
 pub use reader::Reader;
 pub use tlv::{Tlv, content_of, whole_of};
 pub use typed::{read_boolean, read_integer, read_oid};
-pub use writing::write_tlv;
+pub use writing::{tlv_bytes, write_algorithm, write_if_there, write_tlv};
 
 #[cfg(test)]
 mod tests;

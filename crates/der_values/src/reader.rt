@@ -90,10 +90,7 @@ impl<'a> Reader<'a> {
     {
         let (value, left) = split_value(self.left, self.place)?;
         if value.tag != tag {
-            return Err(DerFault {
-                place: self.place,
-                kind: DerKind::WrongTag,
-            });
+            return Err(DerFault::at(self.place, DerKind::WrongTag));
         }
         self.place += value.whole.len() as u64;
         self.left = left;
@@ -139,10 +136,7 @@ impl<'a> Reader<'a> {
         if self.left.is_empty() {
             Ok(())
         } else {
-            Err(DerFault {
-                place: self.place,
-                kind: DerKind::Trailing,
-            })
+            Err(DerFault::at(self.place, DerKind::Trailing))
         }
     }
 }

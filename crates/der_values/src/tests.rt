@@ -222,6 +222,38 @@ fn a_written_length_is_in_the_fewest_octets(rt: HostRuntime) -> Result<(), Fail>
     Ok(())
 }
 
+// id-sha256 (RFC 5754, 2.2).
+const SHA256: [u8; 9] = [0x60, 0x86, 0x48, 0x01, 0x65, 0x03, 0x04, 0x02, 0x01];
+
+#[test]
+fn absent_and_null_parameters_are_none(rt: HostRuntime) {
+    let cases: [(Option<&[u8]>, bool); 3] = [
+        (None, true),
+        (Some(&[0x05, 0x00]), true),
+        (Some(&[0x05, 0x01, 0x00]), false),
+    ];
+    for (params, expected) in cases {
+        let name = AlgName {
+            oid: SHA256.as_slice(),
+            params,
+        };
+        assert_eq!(rt; name.has_no_parameters(), expected);
+    }
+}
+
+#[test]
+fn an_algorithm_is_written_with_its_parameters(rt: HostRuntime) -> Result<(), Fail> {
+    let name = AlgName {
+        oid: &[0x2a, 0x03],
+        params: Some(&[0x05, 0x00]),
+    };
+    let mut out = zeros(rt.alloc(), 1)?;
+    write_algorithm(&mut out, 0xa0, &name)?;
+    let expected = [0u8, 0xa0, 0x06, 0x06, 0x02, 0x2a, 0x03, 0x05, 0x00];
+    assert_eq!(rt; out.as_slice(), expected.as_slice());
+    Ok(())
+}
+
 #[test]
 fn a_catalogue_is_read_by_its_table(rt: HostRuntime) -> Result<(), Fail> {
     let hash = [

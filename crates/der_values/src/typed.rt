@@ -15,14 +15,11 @@ pub fn read_integer<'a>(t: &Tlv<'a>) -> Result<&'a [u8], DerFault>
     ensures content { IfOk result (λ x. x.now ≡ t.now.content.now) }
 {
     match t.content {
-        [] => Err(DerFault {
-            place: t.place,
-            kind: DerKind::BadValue,
-        }),
-        [0, 0..0x80, ..] | [0xff, 0x80..=0xff, ..] => Err(DerFault {
-            place: t.place,
-            kind: DerKind::NotMinimal,
-        }),
+        [] => Err(DerFault::at(t.place, DerKind::BadValue)),
+        [0, 0..0x80, ..] | [0xff, 0x80..=0xff, ..] => Err(DerFault::at(
+            t.place,
+            DerKind::NotMinimal,
+        )),
         content => Ok(content),
     }
 }
@@ -36,10 +33,7 @@ pub fn read_boolean(t: &Tlv<'_>) -> Result<bool, DerFault>
     match t.content {
         [0] => Ok(false),
         [0xff] => Ok(true),
-        _ => Err(DerFault {
-            place: t.place,
-            kind: DerKind::BadValue,
-        }),
+        _ => Err(DerFault::at(t.place, DerKind::BadValue)),
     }
 }
 
@@ -64,10 +58,7 @@ pub fn read_oid<'a>(t: &Tlv<'a>) -> Result<&'a [u8], DerFault>
     ensures content { IfOk result (λ x. x.now ≡ t.now.content.now) }
 {
     if t.content.is_empty() || !are_whole_subidentifiers(t.content) {
-        return Err(DerFault {
-            place: t.place,
-            kind: DerKind::BadValue,
-        });
+        return Err(DerFault::at(t.place, DerKind::BadValue));
     }
     Ok(t.content)
 }

@@ -3,7 +3,8 @@ use Rattle.std.proofs.lemmas.List.{length_push}
 use Rattle.der_values.specs.Next.{seen}
 use Rattle.der_values.specs.Shape.{tagged}
 use Rattle.der_values.specs.Reading.{read}
-use Rattle.der_values.specs.Example.{der, key_at, each_key}
+use Rattle.der_values.specs.Example.{der}
+use Rattle.der_values.specs.Inside.{key_at, each_key}
 use Rattle.der_values.proofs.Loop.{one_more}
 use Rattle.der_values.proofs.example.all_keys.Goals as goal
 

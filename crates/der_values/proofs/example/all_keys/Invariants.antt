@@ -1,6 +1,7 @@
 use Rattle.std.proofs.Common.{◌≡◌, ◌+◌, ◌≤◌, ℕ, List, length}
 use Rattle.der_values.specs.Shape.{tagged}
-use Rattle.der_values.specs.Example.{der, key_at, each_key}
+use Rattle.der_values.specs.Example.{der}
+use Rattle.der_values.specs.Inside.{key_at, each_key}
 use Rattle.der_values.proofs.Loop.{ReadSoFar}
 use Rattle.der_values.proofs.example.all_keys.Given as goal
 
