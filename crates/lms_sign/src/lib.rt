@@ -4,7 +4,7 @@
 
 mod fault;
 mod key;
-mod laws;
+pub mod laws;
 mod ots;
 mod secret;
 #[cfg(test)]
@@ -13,4 +13,3 @@ mod tree;
 
 pub use fault::SignFault;
 pub use key::{HssKey, from_seed};
-pub use laws::no_leaf_signs_twice;

@@ -1,4 +1,4 @@
-ghost use Rattle.std.specs.Prelude.{◌≡◌, ◌+◌, ◌*◌, ◌++◌, length, OnOk};
+ghost use Rattle.std.specs.Prelude.{◌≡◌, ◌+◌, ◌++◌, length, OnOk};
 ghost use Rattle.lms_sign.specs.Ots.{secret_value, randomizer_of, value_after, ots_key, signed_values, ots_signature};
 ghost use Rattle.lms_sign.specs.Inside.{IsTree};
 

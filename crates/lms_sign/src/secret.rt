@@ -1,8 +1,7 @@
-ghost use Rattle.std.specs.Prelude.{◌≡◌, ◌+◌, ◌-◌, ◌*◌, ◌^◌, ◌<◌, ◌≤◌, ◌++◌, length};
-ghost use Rattle.hash_kit.specs.Digest.{digest_of};
+ghost use Rattle.std.specs.Prelude.{◌≡◌, ◌+◌, ◌-◌, ◌*◌, ◌^◌, ◌<◌, ◌≤◌};
 ghost use Rattle.hash_kit.specs.Hashing.{Hashes};
 ghost use Rattle.lms_verify.specs.Lms.{height_of};
-ghost use Rattle.lms_sign.specs.Hss.{number_at, leaf_at, tree_name, tree_numbered, tree_at};
+ghost use Rattle.lms_sign.specs.Hss.{leaf_at, tree_name, tree_numbered, tree_at};
 ghost use Rattle.lms_sign.specs.Inside.{IsTree, IsKey};
 
 use hash_kit::{HashAlg, Hasher};

@@ -1,6 +1,6 @@
-ghost use Rattle.std.specs.Prelude.{◌≡◌, ◌+◌, ◌*◌, ◌^◌, ◌<◌, ◌≤◌, ◌++◌, length, suc, IfOk, OnOk};
+ghost use Rattle.std.specs.Prelude.{◌≡◌, ◌+◌, ◌*◌, ◌^◌, ◌<◌, ◌≤◌, ◌++◌, IfOk, OnOk};
 ghost use Rattle.lms_verify.specs.Lms.{height_of};
-ghost use Rattle.lms_sign.specs.Lms.{leaves_of, leaf_node, inner_node, node, sibling_of, path_of, lms_public, lms_signature};
+ghost use Rattle.lms_sign.specs.Lms.{leaves_of, leaf_node, node, sibling_of, path_of, lms_public, lms_signature};
 ghost use Rattle.lms_sign.specs.Inside.{IsTree, AreNodes};
 
 use crate::ots::{ots_key, write_ots_signature};

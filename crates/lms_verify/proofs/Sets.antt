@@ -2,8 +2,7 @@
 use Rattle.std.proofs.Common.{◌≡◌, ℕ, ◌+◌, ◌-◌, ◌*◌, ◌/◌, ◌%◌, ◌^◌, ◌<◌, ◌≤◌, inl, inr, refl, sym, subst, arith}
 use Rattle.std.proofs.Math.Nat.{mod-eq_of_lt}
 use Rattle.lms_verify.specs.declared.ots.OtsSet.{OtsSet}
-use Rattle.lms_verify.specs.Ots.{set_of}
-use Rattle.lms_verify.specs.Inside.{IsSet}
+use Rattle.lms_verify.specs.Ots.{IsSet, set_of}
 
 pub by_set : (P : OtsSet → Type 0) → P (set_of 1) → P (set_of 2) → P (set_of 3) → P (set_of 4) → (set : OtsSet) → IsSet set → P set
 by_set P a b c d set (inl e) = subst P (sym e) a

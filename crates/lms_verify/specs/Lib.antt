@@ -1,4 +1,3 @@
 pub mod Hss
-pub mod Inside
 pub mod Lms
 pub mod Ots

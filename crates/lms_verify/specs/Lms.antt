@@ -21,21 +21,27 @@ signature_size set height = 4 + (4 + 32 + 32 * set.digits) + 4 + 32 * height
 abbrev pub size_of : List ℕ → ℕ
 size_of key = signature_size (set_of (ots_type_of key)) (height_of (lms_type_of key))
 
+-- the number q of the leaf that signs (5.4)
 abbrev pub leaf_in : List ℕ → ℕ
 leaf_in signature = u32_at 0 signature
 
+-- the type of the one-time signature (4.5)
 abbrev pub ots_type_in : List ℕ → ℕ
 ots_type_in signature = u32_at 4 signature
 
+-- its randomizer C (4.5)
 abbrev pub randomizer_in : List ℕ → List ℕ
 randomizer_in signature = take 32 (drop 8 signature)
 
+-- its values y (4.5)
 abbrev pub values_in : OtsSet → List ℕ → List ℕ
 values_in set signature = take (32 * set.digits) (drop 40 signature)
 
+-- the type of the LMS signature (5.4)
 abbrev pub lms_type_in : OtsSet → List ℕ → ℕ
 lms_type_in set signature = u32_at (40 + 32 * set.digits) signature
 
+-- the path of the leaf (5.4)
 abbrev pub path_in : OtsSet → List ℕ → List ℕ
 path_in set signature = drop (44 + 32 * set.digits) signature
 

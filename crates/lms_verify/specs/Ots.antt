@@ -1,5 +1,5 @@
 -- One-time signatures, LM-OTS (RFC 8554, section 4), with SHA-256 and values of 32 bytes.
-use Rattle.std.specs.Prelude.{ℕ, zero, suc, ◌+◌, ◌-◌, ◌*◌, ◌/◌, ◌%◌, ◌^◌, ◌==◌, List, [], ◌∷◌, ◌++◌, take, drop, slice_index, bit_and, if◌then◌else◌}
+use Rattle.std.specs.Prelude.{◌≡◌, ◌⊎◌, ℕ, zero, suc, ◌+◌, ◌-◌, ◌*◌, ◌/◌, ◌%◌, ◌^◌, ◌==◌, List, [], ◌∷◌, ◌++◌, take, drop, slice_index, bit_and, if◌then◌else◌}
 use Rattle.std.specs.Int.{w16, w32, to_be_bytes}
 use Rattle.hash_kit.specs.Digest.{digest_of}
 use Rattle.hash_kit.specs.declared.algorithm.HashAlg.TheVariants.{Sha256}
@@ -12,6 +12,10 @@ set_of ots_type =
     else (if ots_type == 2 then record { width = 2; digits = 133; shift = 6 }
     else (if ots_type == 3 then record { width = 4; digits = 67; shift = 4 }
     else record { width = 8; digits = 34; shift = 0 }))
+
+-- a parameter set is that of a type from 1 to 4
+abbrev pub IsSet : OtsSet → Type 0
+IsSet set = (set ≡ set_of 1) ⊎ (set ≡ set_of 2) ⊎ (set ≡ set_of 3) ⊎ (set ≡ set_of 4)
 
 -- H(I || u32str(number) || u16str(mark) || rest): the mark says what is hashed (7.1)
 unfoldable pub hash_of : List ℕ → ℕ → ℕ → List ℕ → List ℕ

@@ -1,8 +1,7 @@
-ghost use Rattle.std.specs.Prelude.{◌≡◌, ◌+◌, ◌*◌, ◌≤◌, false, true, length, MatchOption, take, drop};
+ghost use Rattle.std.specs.Prelude.{◌≡◌, ◌≤◌, false, true, length, MatchOption};
 ghost use Rattle.hash_kit.specs.HssKey.{lms_type_of, ots_type_of, identifier_of, root_of, is_lms_key};
-ghost use Rattle.lms_verify.specs.Ots.{set_of};
+ghost use Rattle.lms_verify.specs.Ots.{IsSet, set_of};
 ghost use Rattle.lms_verify.specs.Lms.{height_of};
-ghost use Rattle.lms_verify.specs.Inside.{IsSet};
 
 use crate::ots::{OtsSet, set_of};
 use hash_kit::{has_types, u32_at};

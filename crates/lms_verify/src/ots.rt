@@ -1,8 +1,7 @@
 ghost use Rattle.std.specs.Prelude.{◌≡◌, ◌+◌, ◌-◌, ◌*◌, ◌/◌, ◌^◌, ◌<◌, ◌≤◌, ◌∷◌, ◌++◌, length, take, drop};
 ghost use Rattle.std.specs.Int.{w16, w32, to_be_bytes};
 ghost use Rattle.hash_kit.specs.Digest.{digest_of};
-ghost use Rattle.lms_verify.specs.Ots.{set_of, coef, checksum, with_checksum, after_steps, end_of, message_hash, ots_candidate};
-ghost use Rattle.lms_verify.specs.Inside.{IsSet};
+ghost use Rattle.lms_verify.specs.Ots.{IsSet, set_of, coef, checksum, with_checksum, after_steps, end_of, message_hash, ots_candidate};
 
 use crate::hashing::{ONE_TIME_KEY, marked};
 use hash_kit::{HashAlg, HashValue, digest};
@@ -111,7 +110,7 @@ fn step_message(identifier: &[u8], leaf: u32, i: u16, value: &[u8]) -> [u8; 55]
 }
 
 // Step j: in the message the value gives way to the hash of the message.
-fn do_step(message: &mut [u8], j: u8)
+fn chain_step(message: &mut [u8], j: u8)
     requires { length message.old ≡ 55 }
     ensures head { take 22 message.new ≡ take 22 message.old }
     ensures value { drop 23 message.new
@@ -139,7 +138,7 @@ pub fn after_steps(
 {
     let mut message = step_message(identifier, leaf, i, start);
     for step in first..end {
-        do_step(&mut message, step);
+        chain_step(&mut message, step);
     }
     HashValue::of(&message[23..])
 }

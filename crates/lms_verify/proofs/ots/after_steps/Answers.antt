@@ -17,12 +17,12 @@ loop-step-preserved c =
     let value = drop 23 c.loop-step.message in
     let asked : take 22 c.loop-step.message ++ step ∷ value ≡ identifier ++ leaf ++ i ++ step ∷ value =
     ap (λ l. l ++ step ∷ value) c.loop-step.invariant.1 in
-    let next : drop 23 c.do_step.new.message ≡ hash_of identifier c.args.leaf c.args.i (step ∷ value) =
-    c.do_step.ensures.value ∙ ap (digest_of Sha256) asked in (
+    let next : drop 23 c.chain_step.new.message ≡ hash_of identifier c.args.leaf c.args.i (step ∷ value) =
+    c.chain_step.ensures.value ∙ ap (digest_of Sha256) asked in (
       ap (after_steps (c.args.end - (step + 1)) identifier c.args.leaf c.args.i (step + 1)) next
           ∙ sym (step_more c.args.end step identifier c.args.leaf c.args.i value c.loop-step-test.true)
           ∙ c.loop-step.invariant.0,
-      c.do_step.ensures.head ∙ c.loop-step.invariant.1,
+      c.chain_step.ensures.head ∙ c.loop-step.invariant.1,
     )
 
 pub returns-clause-value : goal.returns-clause-value

@@ -3,7 +3,7 @@ use Rattle.std.proofs.lemmas.List.{set_split}
 use Rattle.hash_kit.specs.Digest.{digest_of}
 use Rattle.hash_kit.specs.declared.algorithm.HashAlg.TheVariants.{Sha256}
 use Rattle.lms_verify.proofs.Messages.{behind}
-use Rattle.lms_verify.proofs.ots.do_step.Goals as goal
+use Rattle.lms_verify.proofs.ots.chain_step.Goals as goal
 
 pub returns-clause-value : goal.returns-clause-value
 returns-clause-value c =
