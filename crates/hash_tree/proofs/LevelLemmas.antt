@@ -3,7 +3,8 @@ use Rattle.std.proofs.Common.{◌≡◌, ℕ, zero, suc, ◌+◌, ◌/◌, ◌<�
 use Rattle.hash_kit.specs.declared.algorithm.HashAlg.{HashAlg}
 use Rattle.hash_kit.specs.Node.{node_of}
 use Rattle.hash_tree.specs.Tree.{root_within, tree_root, path_within, tree_path}
-use Rattle.hash_tree.specs.Levels.{pairs, beside, AreLevels, neighbours, lowest}
+use Rattle.hash_tree.specs.Levels.{lowest}
+use Rattle.hash_tree.specs.Inside.{pairs, beside, AreLevels, neighbours}
 use Rattle.hash_tree.proofs.RootLemmas.{length_pairs}
 use Rattle.hash_tree.proofs.PathLemmas.{path_step}
 

@@ -5,7 +5,7 @@ use Rattle.std.proofs.lemmas.Bool.{ltb-true, ltb-false, lt-ltb, le-ltb}
 use Rattle.hash_kit.specs.declared.algorithm.HashAlg.{HashAlg}
 use Rattle.hash_kit.specs.Node.{node_of}
 use Rattle.hash_tree.specs.Tree.{power_within, power_below, left_half, right_half, root_within, tree_root, path_within, tree_path}
-use Rattle.hash_tree.specs.Levels.{pairs, beside}
+use Rattle.hash_tree.specs.Inside.{pairs, beside}
 use Rattle.hash_tree.proofs.PowerLemmas.{by_test}
 use Rattle.hash_tree.proofs.RootLemmas.{halves, lengths, length_pairs, root_above, twice}
 

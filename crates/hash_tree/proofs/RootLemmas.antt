@@ -3,7 +3,7 @@ use Rattle.std.proofs.Common.{◌≡◌, ℕ, zero, suc, ◌+◌, ◌-◌, ◌*�
 use Rattle.hash_kit.specs.declared.algorithm.HashAlg.{HashAlg}
 use Rattle.hash_kit.specs.Node.{node_of}
 use Rattle.hash_tree.specs.Tree.{power_within, power_below, left_half, right_half, root_within, tree_root}
-use Rattle.hash_tree.specs.Levels.{pairs}
+use Rattle.hash_tree.specs.Inside.{pairs}
 use Rattle.hash_tree.proofs.PowerLemmas.{power_low, power_under, power_step}
 
 pub length_pairs : (alg : HashAlg) (l : List (List ℕ)) → length (pairs alg l) ≡ (length l + 1) / 2

@@ -8,6 +8,7 @@ unfoldable pub power_within : ℕ → ℕ → ℕ
 power_within zero n = 1
 power_within (suc fuel) n = if nat_lt 2 n then 2 * power_within fuel ((n + 1) / 2) else 1
 
+-- the largest power of two below the number, from 2 on
 abbrev pub power_below : ℕ → ℕ
 power_below n = power_within n n
 
@@ -15,6 +16,7 @@ power_below n = power_within n n
 abbrev pub left_half : List (List ℕ) → List (List ℕ)
 left_half leaves = take (power_below (length leaves)) leaves
 
+-- the leaves of the right half
 abbrev pub right_half : List (List ℕ) → List (List ℕ)
 right_half leaves = drop (power_below (length leaves)) leaves
 
@@ -26,6 +28,7 @@ root_within (suc fuel) alg [] = []
 root_within (suc fuel) alg (leaf ∷ []) = leaf
 root_within (suc fuel) alg leaves = node_of alg (root_within fuel alg (left_half leaves) ∷ root_within fuel alg (right_half leaves) ∷ [])
 
+-- the root over leaves: a single leaf, or the node of the roots of both halves
 abbrev pub tree_root : HashAlg → List (List ℕ) → List ℕ
 tree_root alg leaves = root_within (length leaves) alg leaves
 
@@ -39,6 +42,7 @@ path_within (suc fuel) alg leaves place =
     then path_within fuel alg (left_half leaves) place ++ tree_root alg (right_half leaves) ∷ []
     else path_within fuel alg (right_half leaves) (place - power_below (length leaves)) ++ tree_root alg (left_half leaves) ∷ []
 
+-- the path of the leaf in this place: from the leaf up, the root of the other half at each split
 abbrev pub tree_path : HashAlg → List (List ℕ) → ℕ → List (List ℕ)
 tree_path alg leaves place = path_within (length leaves) alg leaves place
 

@@ -13,5 +13,6 @@ pub fn power_below_is_the_largest()
 
 /// A leaf with its path comes to the root.
 pub fn each_path_folds_to_the_root()
-    ensures { (alg : HashAlg) (leaves : List (List ℕ)) (place : ℕ) → place < length leaves → folded alg (slice_index_or leaves place []) (tree_path alg leaves place) ≡ tree_root alg leaves }
+    ensures { (alg : HashAlg) (leaves : List (List ℕ)) (place : ℕ) → place < length leaves
+        → folded alg (slice_index_or leaves place []) (tree_path alg leaves place) ≡ tree_root alg leaves }
 {}

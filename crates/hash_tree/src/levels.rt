@@ -1,7 +1,7 @@
 // One level of a tree after another.
-ghost use Rattle.std.specs.Prelude.{◌≡◌, ◌+◌, ◌/◌, ◌<◌, ◌++◌, ◌∷◌, ℕ, length, IfOk, MatchOption, Some, []};
+ghost use Rattle.std.specs.Prelude.{◌≡◌, ◌+◌, ◌/◌, ◌<◌, ◌++◌, ◌∷◌, IfOk, []};
 ghost use Rattle.hash_kit.specs.Node.{node_of};
-ghost use Rattle.hash_tree.specs.Levels.{pairs, beside};
+ghost use Rattle.hash_tree.specs.Inside.{pairs, beside};
 
 use der_values::Items;
 use hash_kit::{HashAlg, HashValue, Hasher};

@@ -4,8 +4,8 @@ ghost use Rattle.std.specs.Prelude.{◌≡◌, length, IfOk};
 use crate::LevelTree;
 use der_values::Items;
 use hash_kit::{HashAlg, HashValue, digest, node};
+use hex::encode;
 use std::alloc::{AllocError, Global};
-use std::fmt::Write;
 use std::test::Fail;
 
 // The leaves: SHA-256 of the single bytes 0, 1, 2 and so on.
@@ -17,15 +17,6 @@ fn leaves(alloc: Global, count: u8) -> Result<Items<HashValue>, AllocError>
         leaves.push(digest(HashAlg::Sha256, &[byte]))?;
     }
     Ok(Items::from_vec(leaves))
-}
-
-// The value in lowercase hexadecimal digits.
-fn spelled(alloc: Global, value: &HashValue) -> Result<String, Fail> {
-    let mut text = String::new(alloc);
-    for byte in value.bytes() {
-        write!(text, "{byte:02x}")?;
-    }
-    Ok(text)
 }
 
 #[test]
@@ -64,7 +55,7 @@ fn a_tree_has_the_root_of_its_halves(rt: HostRuntime) -> Result<(), Fail> {
     for &(count, hex) in &rows {
         if count > 0 {
             let tree = LevelTree::build(alloc, HashAlg::Sha256, leaves(alloc, count)?)?;
-            assert_eq!(&rt; spelled(alloc, &tree.root())?.as_str(), hex);
+            assert_eq!(&rt; encode(alloc, tree.root().bytes())?.as_str(), hex);
         }
     }
     Ok(())

@@ -18,7 +18,8 @@ pub struct LevelTree {
 
 impl Model for LevelTree {
     ghost use Rattle.std.specs.Prelude.{◌≡◌};
-    ghost use Rattle.hash_tree.specs.Levels.{Covered, AreLevels, lowest};
+    ghost use Rattle.hash_tree.specs.Levels.{Covered, lowest};
+    ghost use Rattle.hash_tree.specs.Inside.{AreLevels};
     ghost use Rattle.hash_tree.specs.Tree.{tree_root};
 
     ghost Value = { Covered };

@@ -8,13 +8,15 @@ use Rattle.hash_kit.specs.Node.{node_of}
 use Rattle.object_groups.specs.declared.fault.GroupFault.{GroupFault}
 use Rattle.object_groups.specs.declared.fault.GroupFault.TheVariants.{NoDocuments, TooMany, DocumentLong, TooLong}
 
--- the most documents of a group, the most bytes of one, and of all together
+-- the most documents of a group
 abbrev pub most_documents : ℕ
 most_documents = 64
 
+-- the most bytes of a document
 abbrev pub longest_document : ℕ
 longest_document = 1048576
 
+-- the most bytes of all documents of a group together
 abbrev pub most_bytes : ℕ
 most_bytes = 4194304
 

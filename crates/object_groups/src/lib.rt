@@ -10,6 +10,7 @@ mod limits;
 pub use fault::GroupFault;
 pub use group::Group;
 pub use hashes::{group_node, hash_values};
+pub use limits::{LONGEST_DOCUMENT, MOST_BYTES, MOST_DOCUMENTS};
 
 #[cfg(test)]
 mod tests;

@@ -1,16 +1,18 @@
 // The limits of a group.
 ghost use Rattle.std.specs.Prelude.{◌≡◌, ◌≤◌, ◌<◌, ◌^◌, length, None};
-ghost use Rattle.std.specs.List.{AllByRecursion};
-ghost use Rattle.object_groups.specs.Groups.{most_documents, longest_document, bytes_in, first_long, fault_of};
+ghost use Rattle.object_groups.specs.Groups.{most_documents, bytes_in, first_long, fault_of};
 
 use crate::GroupFault;
 use der_values::Bytes;
 
-const MOST_DOCUMENTS: usize = 64;
+/// The most documents of a group.
+pub const MOST_DOCUMENTS: usize = 64;
 
-const LONGEST_DOCUMENT: usize = 1_048_576;
+/// The most bytes of a document: 1 MiB.
+pub const LONGEST_DOCUMENT: usize = 1_048_576;
 
-const MOST_BYTES: u64 = 4_194_304;
+/// The most bytes of all documents of a group together: 4 MiB.
+pub const MOST_BYTES: u64 = 4_194_304;
 
 // The place of the first document that is too long.
 #[tactic(auto, using(crate::proofs::LimitLemmas::shifted_more))]

@@ -14,6 +14,7 @@ abbrev pub first_of : List (List (List ℕ)) → List (List ℕ)
 first_of [] = []
 first_of (first ∷ later) = first
 
+-- the lists after the first one
 abbrev pub later_of : List (List (List ℕ)) → List (List (List ℕ))
 later_of [] = []
 later_of (first ∷ later) = later
@@ -37,6 +38,7 @@ other_from alg [] later = None
 other_from alg (value ∷ []) later = Some (rises alg (digest_of alg value) later)
 other_from alg (value ∷ other ∷ values) later = None
 
+-- the root from the digest of the first list's value, where it has one alone; else there is none
 abbrev pub other_root : HashAlg → List (List (List ℕ)) → Option (List ℕ)
 other_root alg lists = other_from alg (first_of lists) (later_of lists)
 

@@ -5,18 +5,9 @@ ghost use Rattle.reduced_tree.specs.Reduced.{AreFull};
 use crate::{contains_first, is_whole, roots};
 use der_values::Items;
 use hash_kit::{HashAlg, HashValue, digest};
+use hex::encode;
 use std::alloc::{AllocError, Global};
-use std::fmt::Write;
 use std::test::Fail;
-
-// The value in lowercase hexadecimal digits.
-fn spelled(alloc: Global, value: &HashValue) -> Result<String, Fail> {
-    let mut text = String::new(alloc);
-    for byte in value.bytes() {
-        write!(text, "{byte:02x}")?;
-    }
-    Ok(text)
-}
 
 // A list of one or two values, and then one of one value where there is one.
 fn lists(
@@ -77,10 +68,10 @@ fn a_first_list_of_one_value_leads_to_two_roots(rt: HostRuntime) -> Result<(), F
     ];
     for &(other, later, plain, hashed) in &rows {
         let found = roots(alloc, HashAlg::Sha256, &lists(alloc, v, other, later)?)?;
-        assert_eq!(&rt; spelled(alloc, &found.plain)?.as_str(), plain);
+        assert_eq!(&rt; encode(alloc, found.plain.bytes())?.as_str(), plain);
         assert_eq!(&rt; found.other.is_some(), hashed.is_some());
         if let (Some(found), Some(hashed)) = (found.other, hashed) {
-            assert_eq!(&rt; spelled(alloc, &found)?.as_str(), hashed);
+            assert_eq!(&rt; encode(alloc, found.bytes())?.as_str(), hashed);
         }
     }
     Ok(())

@@ -1,6 +1,6 @@
 use Rattle.std.proofs.Common.{◌≡◌, suc, ◌+◌, ◌<◌, ◌≤◌, ◌∷◌, ◌++◌, length, drop, get_or, ap, sym, ◌∙◌, arith, List, ℕ, Vec, Global}
 use Rattle.hash_kit.specs.declared.value.HashValue.{HashValue}
-use Rattle.hash_tree.specs.Levels.{pairs}
+use Rattle.hash_tree.specs.Inside.{pairs}
 use Rattle.hash_tree.proofs.LevelLemmas.{pair_ahead, last_ahead, nothing_ahead, pushed, finished}
 use Rattle.hash_tree.proofs.levels.level_above.Goals as goal
 use Rattle.hash_tree.proofs.levels.level_above.Goals.{then-place-level+in_ok-push-2, else-place-level}

@@ -1,5 +1,5 @@
 use Rattle.std.proofs.Common.{◌≡◌, ◌-◌, ◌≤◌, ◌++◌, length, drop}
-use Rattle.hash_tree.specs.Levels.{pairs}
+use Rattle.hash_tree.specs.Inside.{pairs}
 use Rattle.hash_tree.proofs.levels.level_above.Given as goal
 
 abbrev pub invariant-loop-place : goal.invariant-loop-place

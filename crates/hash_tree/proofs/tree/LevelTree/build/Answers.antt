@@ -1,6 +1,6 @@
 use Rattle.std.proofs.Common.{◌≡◌, ◌<◌, length, get_or, ap, sym, ◌∙◌, subst, arith, List, ℕ}
 use Rattle.hash_tree.specs.Tree.{tree_root}
-use Rattle.hash_tree.specs.Levels.{AreLevels, pairs}
+use Rattle.hash_tree.specs.Inside.{AreLevels, pairs}
 use Rattle.hash_tree.proofs.RootLemmas.{length_pairs, root_above}
 use Rattle.hash_tree.proofs.LevelLemmas.{one_more, all_levels, are_lowest, root_of_one}
 use Rattle.hash_tree.proofs.tree.LevelTree.build.Goals as goal

@@ -1,6 +1,6 @@
 use Rattle.std.proofs.Common.{◌≡◌, ◌<◌, ◌++◌, List, ℕ, length}
 use Rattle.hash_tree.specs.Tree.{tree_root}
-use Rattle.hash_tree.specs.Levels.{AreLevels}
+use Rattle.hash_tree.specs.Inside.{AreLevels}
 use Rattle.hash_tree.proofs.tree.LevelTree.build.Given as goal
 
 abbrev pub invariant-loop-alloc : goal.invariant-loop-alloc

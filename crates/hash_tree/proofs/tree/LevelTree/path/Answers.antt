@@ -1,6 +1,7 @@
 use Rattle.std.proofs.Common.{◌<◌, ◌++◌, length, ap, ◌∙◌, arith, List, ℕ}
 use Rattle.hash_tree.specs.Tree.{tree_path}
-use Rattle.hash_tree.specs.Levels.{Covered, lowest, neighbours, beside}
+use Rattle.hash_tree.specs.Levels.{Covered, lowest}
+use Rattle.hash_tree.specs.Inside.{neighbours, beside}
 use Rattle.hash_tree.proofs.LevelLemmas.{levels_path, level_ahead, none_ahead, added, finished}
 use Rattle.hash_tree.proofs.tree.LevelTree.path.Goals as goal
 

@@ -1,6 +1,6 @@
 use Rattle.std.proofs.Common.{◌≡◌, ◌++◌, drop}
 use Rattle.hash_tree.specs.Tree.{tree_path}
-use Rattle.hash_tree.specs.Levels.{neighbours}
+use Rattle.hash_tree.specs.Inside.{neighbours}
 use Rattle.hash_tree.proofs.tree.LevelTree.path.Given as goal
 
 abbrev pub invariant-loop-level : goal.invariant-loop-level
