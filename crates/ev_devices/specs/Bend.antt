@@ -18,8 +18,10 @@ pub record Bending (A : Type 0) : Type 0 where
   pub mask : ℕ
   pub calls : List StampCall
 
+-- the request as the authority behind gets it
 abbrev pub bent_request : {A : Type 0} → Bending A → List ℕ → List ℕ
 bent_request b text = elim b.at [ Request ↦ bent b.from_end b.mask text | Reply ↦ text ]
 
+-- the reply as it is handed out
 abbrev pub bent_reply : {A : Type 0} → Bending A → List ℕ → List ℕ
 bent_reply b text = elim b.at [ Request ↦ text | Reply ↦ bent b.from_end b.mask text ]

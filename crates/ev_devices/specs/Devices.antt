@@ -26,5 +26,6 @@ IsFailing d = Contains d.failing d.calls
 abbrev pub failed : Device → Device
 failed d = record d { calls = counted d.calls; faults = counted d.faults }
 
+-- after a call that did not fail and left these bytes
 abbrev pub called : Device → List ℕ → Device
 called d bytes = record d { bytes = bytes; calls = counted d.calls }

@@ -24,9 +24,11 @@ Fails d = Contains d.failing d.calls ⊎ (d.stop_after ≤ d.calls)
 abbrev pub writes_of : DiskDevice → List Written
 writes_of d = made_at d.calls d.writes
 
+-- what a read gives
 abbrev pub reads_of : DiskDevice → List ℕ
 reads_of d = replay d.first (writes_of d)
 
+-- what a crash now may leave
 abbrev pub images_of : DiskDevice → List ℕ → Type 0
 images_of d = Images d.first (writes_of d)
 
@@ -40,6 +42,7 @@ since_of d t c = (moment : ℕ) × (t ≤ moment) × (moment ≤ d.calls) × Ima
 abbrev pub disk_failed : DiskDevice → DiskDevice
 disk_failed d = record d { calls = counted d.calls; faults = counted d.faults }
 
+-- after a call that did not fail and wrote nothing
 abbrev pub disk_asked : DiskDevice → DiskDevice
 disk_asked d = record d { calls = counted d.calls }
 
@@ -50,6 +53,7 @@ disk_written d place bytes = record d {
   calls = counted d.calls;
 }
 
+-- after a sync
 abbrev pub disk_synced : DiskDevice → DiskDevice
 disk_synced d = record d { writes = sync_last (counted d.calls) d.writes; calls = counted d.calls }
 

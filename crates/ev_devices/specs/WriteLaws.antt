@@ -31,11 +31,13 @@ pub put_left : (synced : Option ℕ) (at : ℕ) (w b : List ℕ) (images : List 
 put_left None at w b images here = (b, here, put_torn at w b)
 put_left (Some moment) at w b images here = refl
 
+-- after any writes, what a read gives is an image
 leaves_read : (ws : List Written) (b : List ℕ) (images : List ℕ → Type 0) → images b → Leaves b images ws (replay b ws)
 leaves_read [] b images here = here
 leaves_read (w ∷ ws) b images here =
     leaves_read ws (put b w.place w.bytes) (once_synced w.synced (put b w.place w.bytes) (After (Torn w.place (length w.bytes)) images)) (put_left w.synced w.place w.bytes b images here)
 
+-- the same from bytes that are all on the disk
 pub images_read : (first : List ℕ) (ws : List Written) → Images first ws (replay first ws)
 images_read first ws = leaves_read ws first (λ c. c ≡ first) refl
 
@@ -44,6 +46,7 @@ pub at_now : (first : List ℕ) (ws : List Written) (now t : ℕ) (c : List ℕ)
     → (moment : ℕ) × (t ≤ moment) × (moment ≤ now) × Images first (made_at moment ws) c
 at_now first ws now t c le left = (now, le, omega arith, left)
 
+-- since now there is no image but those of now
 pub only_at : (first : List ℕ) (ws : List Written) (now : ℕ) (c : List ℕ) → (moment : ℕ) × (now ≤ moment) × (moment ≤ now) × Images first (made_at moment ws) c
     → Images first (made_at now ws) c
 only_at first ws now c left =

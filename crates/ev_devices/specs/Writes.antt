@@ -33,6 +33,7 @@ Images first ws = Leaves first (λ c. c ≡ first) ws
 
 -- ---- moments
 
+-- the sync of a write, where it had been made at this moment
 abbrev pub known_at : ℕ → Option ℕ → Option ℕ
 known_at moment None = None
 known_at moment (Some s) = if nat_lt moment s then None else Some s
@@ -44,6 +45,7 @@ made_at moment (w ∷ ws) = if nat_lt moment w.moment then [] else (record w { s
 
 -- ---- one call more
 
+-- the moment of the first sync after a write
 abbrev pub first_sync : Option ℕ → ℕ → Option ℕ
 first_sync None moment = Some moment
 first_sync (Some s) moment = Some s
@@ -56,6 +58,7 @@ sync_last moment (w ∷ v ∷ ws) = w ∷ sync_last moment (v ∷ ws)
 
 -- ---- a restart after a crash
 
+-- 1 for a write that is synced, else 0
 abbrev pub is_synced : Option ℕ → ℕ
 is_synced None = 0
 is_synced (Some moment) = 1
@@ -71,6 +74,7 @@ touched Old b w = b
 touched New b w = put b w.place w.bytes
 touched (Filled byte) b w = put b w.place (replicate (length w.bytes) byte)
 
+-- what it makes of writes that aren't synced, one after another
 abbrev pub touch_all : Crash → List ℕ → List Written → List ℕ
 touch_all how b [] = b
 touch_all how b (w ∷ ws) = touch_all how (touched how b w) ws

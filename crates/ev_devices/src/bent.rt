@@ -1,9 +1,9 @@
-ghost use Rattle.std.specs.Prelude.{◌≡◌, ◌⊎◌, ℕ, [], ◌∷◌, ◌++◌, List, None, Some, IfOk, IsErrOf};
+ghost use Rattle.std.specs.Prelude.{◌≡◌, [], IfOk};
+ghost use Rattle.ev_world.specs.Calls.{IsListed, IsPassedOn};
 ghost use Rattle.ev_devices.specs.Bend.{bent, bent_request, bent_reply};
 
-use crate::kept::{copied, keep_failed, keep_replied};
 use civil_moment::Moment;
-use ev_world::{Authority, StampCall, StampFault};
+use ev_world::{Authority, StampCall, StampCalls, StampFault};
 use std::alloc::{AllocError, Global};
 use std::marker::Model;
 
@@ -23,7 +23,7 @@ pub struct Bent<A: Authority> {
     at: BendAt,
     from_end: u32,
     mask: u8,
-    calls: Vec<StampCall>,
+    calls: StampCalls,
 }
 
 impl<A: Authority> Model for Bent<A> {
@@ -31,7 +31,7 @@ impl<A: Authority> Model for Bent<A> {
 
     ghost Value = { Bending A };
 
-    ghost view = { λ b. record { inner = b.inner; at = b.at; from_end = b.from_end; mask = b.mask; calls = b.calls.items } };
+    ghost view = { λ b. record { inner = b.inner; at = b.at; from_end = b.from_end; mask = b.mask; calls = b.calls.list } };
 }
 
 impl<A: Authority> Bent<A> {
@@ -45,7 +45,7 @@ impl<A: Authority> Bent<A> {
             at,
             from_end,
             mask,
-            calls: Vec::new(alloc),
+            calls: StampCalls::new(alloc),
         }
     }
 
@@ -94,42 +94,27 @@ impl<A: Authority> Authority for Bent<A> {
     ghost made = { λ b. b.calls };
 
     fn stamp(&mut self, now: Moment, request: &[u8]) -> Result<Vec<u8>, StampFault>
-        ensures replied { IfOk result (λ reply. self.new.calls ≡ self.old.calls ++ record { now = now; request = request.now; reply = Some reply.items } ∷ []) }
-        ensures failed { IsErrOf result StampFault.Failed → self.new.calls ≡ self.old.calls ++ record { now = now; request = request.now; reply = None } ∷ [] }
-        ensures memory { IsErrOf result StampFault.Memory → self.new.calls ≡ self.old.calls }
+        ensures listed { IsListed self.old.calls self.new.calls now request.now result }
 
         // The inner authority was asked the bent request, and its reply was bent; it failed exactly where this one fails.
-        ensures passed { IfOk result (λ reply. (inner : List ℕ) × (reply.items ≡ bent_reply self.old inner)
-            × (A.made self.new.inner ≡ A.made self.old.inner ++ record { now = now; request = bent_request self.old request.now; reply = Some inner } ∷ [])) }
-        ensures inner_failed { IsErrOf result StampFault.Failed
-            → A.made self.new.inner ≡ A.made self.old.inner ++ record { now = now; request = bent_request self.old request.now; reply = None } ∷ [] }
-        ensures inner_memory { IsErrOf result StampFault.Memory → (A.made self.new.inner ≡ A.made self.old.inner)
-            ⊎ ((inner : List ℕ) × (A.made self.new.inner ≡ A.made self.old.inner ++ record { now = now; request = bent_request self.old request.now; reply = Some inner } ∷ [])) }
+        ensures passed { IsPassedOn (bent_reply self.old) (A.made self.old.inner) (A.made self.new.inner) now (bent_request self.old request.now) result }
         ensures same { record self.new { inner = self.old.inner; calls = self.old.calls } ≡ self.old }
     {
-        let (Ok(kept), Ok(()), Ok(asked)) = (
-            copied(self.alloc, request),
-            self.calls.reserve(1),
-            self.asked(request),
-        ) else {
+        let (Ok(copy), Ok(asked)) = (self.calls.begin(request), self.asked(request)) else {
             return Err(StampFault::Memory);
         };
         match self.inner.stamp(now, &asked) {
             Ok(reply) => {
                 let handed = self.handed(reply);
-                keep_replied(self.alloc, &mut self.calls, now, kept, handed)
+                self.calls.end(now, copy, Ok(handed))
             }
-            Err(StampFault::Failed) => {
-                keep_failed(&mut self.calls, now, kept);
-                Err(StampFault::Failed)
-            }
-            Err(StampFault::Memory) => Err(StampFault::Memory),
+            Err(fault) => self.calls.end(now, copy, Err(fault)),
         }
     }
 
     fn calls(&self) -> &[StampCall]
         ensures { result.now ≡ self.now.calls }
     {
-        &self.calls
+        self.calls.as_slice()
     }
 }

@@ -8,14 +8,14 @@ use ev_world::Failed;
 
 /// How many calls there were and how many have failed, and the numbers of those that are to fail.
 #[derive(Drop)]
-pub struct Calls {
-    pub failing: Items<u64>,
-    pub number: u64,
-    pub faults: u64,
+pub(crate) struct Calls {
+    pub(crate) failing: Items<u64>,
+    pub(crate) number: u64,
+    pub(crate) faults: u64,
 }
 
 impl Calls {
-    pub fn new(failing: Items<u64>) -> Calls
+    pub(crate) fn new(failing: Items<u64>) -> Calls
         ensures { result ≡ record { failing = failing; number = 0; faults = 0 } }
     {
         Calls {
@@ -26,7 +26,7 @@ impl Calls {
     }
 
     /// Begins a call, and fails where it is one that is to fail.
-    pub fn begin(&mut self) -> Result<(), Failed>
+    pub(crate) fn begin(&mut self) -> Result<(), Failed>
         ensures cause { HasCause self.old.faults self.new.faults result }
         ensures fails { IsErr result ↔ Contains self.old.failing self.old.number }
         ensures number { self.new.number ≡ counted self.old.number }
@@ -45,7 +45,7 @@ impl Calls {
     }
 
     /// Begins a call that fails.
-    pub fn stop(&mut self) -> Failed
+    pub(crate) fn stop(&mut self) -> Failed
         ensures later { self.old.faults ≤ self.new.faults }
         ensures rose { Rose self.old.faults self.new.faults }
         ensures number { self.new.number ≡ counted self.old.number }
@@ -56,7 +56,7 @@ impl Calls {
     }
 
     /// Counts the fault of a call that was begun.
-    pub fn fail(&mut self) -> Failed
+    pub(crate) fn fail(&mut self) -> Failed
         ensures later { self.old.faults ≤ self.new.faults }
         ensures rose { Rose self.old.faults self.new.faults }
         ensures counts { self.new ≡ record self.old { faults = counted self.old.faults } }

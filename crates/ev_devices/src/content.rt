@@ -1,5 +1,5 @@
 // The bytes of a disk in memory: those that it began with, and those of now.
-ghost use Rattle.std.specs.Prelude.{◌≡◌, [], false, OnOk, OnErr};
+ghost use Rattle.std.specs.Prelude.{◌≡◌, false, OnOk, OnErr};
 ghost use Rattle.ev_world.specs.Disk.{put};
 
 use std::alloc::{AllocError, Global};

@@ -1,4 +1,4 @@
-ghost use Rattle.std.specs.Prelude.{◌≡◌, ◌↔◌, ◌⊎◌, ◌+◌, ◌≤◌, ◌<◌, ℕ, List, [], true, false, ◌∷◌, ◌++◌, ◌^◌, None, length, take, drop, IsErr, IfOk, OnOk, OnErr};
+ghost use Rattle.std.specs.Prelude.{◌≡◌, ◌↔◌, ◌⊎◌, ◌+◌, ◌≤◌, ◌<◌, ℕ, List, [], true, ◌∷◌, ◌++◌, ◌^◌, None, length, take, drop, IsErr, IfOk, OnOk, OnErr};
 ghost use Rattle.ev_world.specs.Causes.{Rose, HasCause};
 ghost use Rattle.ev_world.specs.Disk.{Holds, Torn, Follows, Only, Elapses};
 ghost use Rattle.ev_devices.specs.Devices.{counted};

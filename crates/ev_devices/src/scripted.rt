@@ -1,10 +1,10 @@
-ghost use Rattle.std.specs.Prelude.{◌≡◌, [], ◌∷◌, ◌++◌, List, None, Some, IfOk, IsErrOf, length, slice_get};
+ghost use Rattle.std.specs.Prelude.{◌≡◌, [], Some, IfOk, IsErrOf, length, slice_get};
+ghost use Rattle.ev_world.specs.Calls.{IsListed};
 ghost use Rattle.ev_devices.specs.Script.{IsSilent};
 
-use crate::kept::{copied, keep_failed, keep_replied};
 use civil_moment::Moment;
 use der_values::{Bytes, Items};
-use ev_world::{Authority, StampCall, StampFault};
+use ev_world::{Authority, StampCall, StampCalls, StampFault};
 use std::alloc::Global;
 use std::marker::Model;
 
@@ -14,7 +14,7 @@ use std::marker::Model;
 pub struct Scripted {
     alloc: Global,
     replies: Items<Option<Bytes>>,
-    calls: Vec<StampCall>,
+    calls: StampCalls,
 }
 
 impl Model for Scripted {
@@ -22,7 +22,7 @@ impl Model for Scripted {
 
     ghost Value = { Script };
 
-    ghost view = { λ s. record { replies = s.replies; calls = s.calls.items } };
+    ghost view = { λ s. record { replies = s.replies; calls = s.calls.list } };
 }
 
 impl Scripted {
@@ -33,7 +33,21 @@ impl Scripted {
         Scripted {
             alloc,
             replies,
-            calls: Vec::new(alloc),
+            calls: StampCalls::new(alloc),
+        }
+    }
+
+    // A copy of the reply to the call of this number.
+    fn reply(&self, call: usize) -> Result<Vec<u8>, StampFault>
+        ensures script { IfOk result (λ reply. slice_get self.now.replies call ≡ Some (Some reply.items)) }
+        ensures silent { IsErrOf result StampFault.Failed → IsSilent self.now.replies call }
+    {
+        let Some(Some(reply)) = self.replies.as_slice().get(call) else {
+            return Err(StampFault::Failed);
+        };
+        match Vec::from_slice(self.alloc, reply.as_slice()) {
+            Ok(copy) => Ok(copy),
+            Err(_) => Err(StampFault::Memory),
         }
     }
 }
@@ -42,31 +56,23 @@ impl Authority for Scripted {
     ghost made = { λ s. s.calls };
 
     fn stamp(&mut self, now: Moment, request: &[u8]) -> Result<Vec<u8>, StampFault>
-        ensures replied { IfOk result (λ reply. self.new.calls ≡ self.old.calls ++ record { now = now; request = request.now; reply = Some reply.items } ∷ []) }
-        ensures failed { IsErrOf result StampFault.Failed → self.new.calls ≡ self.old.calls ++ record { now = now; request = request.now; reply = None } ∷ [] }
-        ensures memory { IsErrOf result StampFault.Memory → self.new.calls ≡ self.old.calls }
+        ensures listed { IsListed self.old.calls self.new.calls now request.now result }
 
         // The replies are those of the list, in order.
         ensures script { IfOk result (λ reply. slice_get self.old.replies (length self.old.calls) ≡ Some (Some reply.items)) }
         ensures silent { IsErrOf result StampFault.Failed → IsSilent self.old.replies (length self.old.calls) }
         ensures kept { self.new.replies ≡ self.old.replies }
     {
-        let (Ok(kept), Ok(())) = (copied(self.alloc, request), self.calls.reserve(1)) else {
+        let Ok(copy) = self.calls.begin(request) else {
             return Err(StampFault::Memory);
         };
-        let Some(Some(reply)) = self.replies.as_slice().get(self.calls.len()) else {
-            keep_failed(&mut self.calls, now, kept);
-            return Err(StampFault::Failed);
-        };
-        let Ok(given) = Vec::from_slice(self.alloc, reply.as_slice()) else {
-            return Err(StampFault::Memory);
-        };
-        keep_replied(self.alloc, &mut self.calls, now, kept, given)
+        let answer = self.reply(self.calls.as_slice().len());
+        self.calls.end(now, copy, answer)
     }
 
     fn calls(&self) -> &[StampCall]
         ensures { result.now ≡ self.now.calls }
     {
-        &self.calls
+        self.calls.as_slice()
     }
 }

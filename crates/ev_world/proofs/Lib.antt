@@ -1,5 +1,6 @@
 pub mod Moments
 pub mod Writes
 pub mod QuietCalls
+pub mod PassedOn
 mod Unanswered
 mod StandardFacts

@@ -1,5 +1,5 @@
 -- One call more in the list of an authority.
-use Rattle.std.proofs.Common.{◌≡◌, ◌+◌, List, [], ◌∷◌, ◌++◌, ap, ◌∙◌, arith}
+use Rattle.std.proofs.Common.{◌≡◌, ◌+◌, List, [], ◌∷◌, ◌++◌, arith}
 use Rattle.ev_world.specs.Calls.{no_reply, unanswered}
 use Rattle.ev_world.specs.declared.authority.StampCall.{StampCall}
 

@@ -1,5 +1,5 @@
 -- What a write does to the bytes of a disk, and what a crash may leave of them.
-use Rattle.std.specs.Prelude.{◌≡◌, ◌⊎◌, ℕ, ◌+◌, ◌-◌, ◌^◌, ◌≤◌, min, max, List, ◌++◌, length, take, drop}
+use Rattle.std.specs.Prelude.{◌≡◌, ◌⊎◌, ℕ, ◌+◌, ◌-◌, ◌^◌, ◌≤◌, min, max, Bool, IsTrue, List, ◌++◌, length, take, drop}
 
 -- old with these bytes at this place
 abbrev pub put : List ℕ → ℕ → List ℕ → List ℕ
@@ -51,3 +51,22 @@ pub record IsQuiet {D : Type 0} (reads : D → List ℕ) (images : D → List �
   pub same : reads new ≡ reads old
   pub no_more : (c : List ℕ) → images new c → images old c
   pub run : LeavesOnly clock since old new (images old)
+
+-- Reads alone came between: where the disk tells its bytes, nothing was written.
+pub record OnlyReads {D : Type 0} (tells : Bool) (reads : D → List ℕ) (images : D → List ℕ → Type 0) (clock : D → ℕ) (since : D → ℕ → List ℕ → Type 0) (faults : D → ℕ) (old new : D) : Type 0 where
+  pub quiet : IsTrue tells → IsQuiet reads images clock since old new
+  pub later : faults old ≤ faults new
+
+-- ---- a write that is synced
+
+-- These bytes were written at this place and are on the disk: a crash leaves what a read gives.
+pub record IsOnDisk {D : Type 0} (reads : D → List ℕ) (images : D → List ℕ → Type 0) (old new : D) (at : ℕ) (bytes : List ℕ) : Type 0 where
+  pub written : Holds (reads old) at bytes (reads new)
+  pub durable : Only (reads new) (images new)
+
+-- Nothing was written but n bytes at this place: in what a read gives, in what a crash now leaves, and in what one at any moment of
+-- the call might have left.
+pub record WritesOnly {D : Type 0} (reads : D → List ℕ) (images : D → List ℕ → Type 0) (clock : D → ℕ) (since : D → ℕ → List ℕ → Type 0) (old new : D) (at n : ℕ) : Type 0 where
+  pub torn : Torn at n (reads old) (reads new)
+  pub crash : Follows (Torn at n) (images old) (images new)
+  pub any_moment : LeavesOnly clock since old new (After (Torn at n) (images old))

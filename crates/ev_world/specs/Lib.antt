@@ -1,3 +1,4 @@
+pub mod CallList
 pub mod Calls
 pub mod Causes
 pub mod Disk

@@ -1,5 +1,6 @@
 // An authority that stamps requests. Its replies are not trusted.
-ghost use Rattle.std.specs.Prelude.{◌≡◌, [], ◌∷◌, ◌++◌, List, None, Some, IfOk, IsErrOf};
+ghost use Rattle.std.specs.Prelude.{◌≡◌, List};
+ghost use Rattle.ev_world.specs.Calls.{IsListed};
 
 use civil_moment::Moment;
 use der_values::Bytes;
@@ -30,9 +31,7 @@ pub trait Authority {
 
     /// Asks for a stamp at this moment. What stands behind the authority may have changed whatever it answers.
     fn stamp(&mut self, now: Moment, request: &[u8]) -> Result<Vec<u8>, StampFault>
-        ensures replied { IfOk result (λ reply. made self.new ≡ made self.old ++ record { now = now; request = request.now; reply = Some reply.items } ∷ []) }
-        ensures failed { IsErrOf result StampFault.Failed → made self.new ≡ made self.old ++ record { now = now; request = request.now; reply = None } ∷ [] }
-        ensures memory { IsErrOf result StampFault.Memory → made self.new ≡ made self.old };
+        ensures { IsListed (made self.old) (made self.new) now request.now result };
 
     /// The calls, in order.
     fn calls(&self) -> &[StampCall]

@@ -3,6 +3,7 @@
 #![tactic(auto)]
 
 mod authority;
+mod calls;
 mod disk;
 pub mod laws;
 mod pace;
@@ -11,6 +12,7 @@ mod streams;
 mod synced;
 
 pub use authority::{Authority, StampCall, StampFault};
+pub use calls::StampCalls;
 pub use disk::Disk;
 pub use pace::Pace;
 pub use quiet::{read, settle, size_of};
