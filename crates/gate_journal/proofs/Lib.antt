@@ -1,4 +1,6 @@
 mod Alike
+pub mod Appending
+mod Crashes
 mod EmptyJournal
 pub mod Exclusive
 pub mod FrameBytes

@@ -16,6 +16,7 @@
 // gate there are at most 1,073,741,824 bytes.
 ghost use Rattle.std.specs.Prelude.{◌≡◌, ◌⊎◌, ◌↔◌, ◌+◌, ◌≤◌, ℕ, List, [], ◌∷◌, ◌++◌, length, take, IsTrue, IsOk, OnOk, vec_capacity};
 ghost use Rattle.ev_world.specs.Causes.{HasCause};
+ghost use Rattle.ev_world.specs.Disk.{Only, LeavesOnly, IsOnDisk, WritesOnly};
 ghost use Rattle.gate_journal.specs.Journal.{max_payload, max_journal, body, Reads};
 ghost use Rattle.gate_journal.specs.Inside.{max_write, IsAtRest};
 
@@ -71,6 +72,27 @@ fn fill(buffer: &mut Vec<u8>, payload: &[u8]) -> Result<(), AllocError>
     Ok(())
 }
 
+// Writes what stands behind the closed gate at `end`, up to the next gate.
+fn write_behind<D: Disk>(disk: &mut D, end: u64, bytes: &[u8]) -> Result<(), Failed>
+    requires limit { end + 1 ≤ max_journal }
+    requires gate { IsTrue D.tells → end + 1 ≤ length (D.reads disk.old) }
+    ensures on_disk { OnOk result (IsTrue D.tells → IsOnDisk D.reads D.images disk.old disk.new (end + 1) bytes.now) }
+    ensures within { IsTrue D.tells → WritesOnly D.reads D.images D.clock D.since disk.old disk.new (end + 1) (length bytes.now) }
+    ensures cause { HasCause (D.faults disk.old) (D.faults disk.new) result }
+{
+    write_synced(disk, end + 1, bytes)
+}
+
+// Opens the gate at `end`.
+fn open_gate<D: Disk>(disk: &mut D, end: u64) -> Result<(), Failed>
+    requires { IsTrue D.tells → end ≤ length (D.reads disk.old) }
+    ensures on_disk { OnOk result (IsTrue D.tells → IsOnDisk D.reads D.images disk.old disk.new end (1 ∷ [])) }
+    ensures within { IsTrue D.tells → WritesOnly D.reads D.images D.clock D.since disk.old disk.new end 1 }
+    ensures cause { HasCause (D.faults disk.old) (D.faults disk.new) result }
+{
+    write_synced(disk, end, &[OPEN])
+}
+
 // Puts a frame behind the closed gate at `end`, and opens the gate.
 pub(crate) fn write_frame<D: Disk>(
     disk: &mut D,
@@ -86,6 +108,9 @@ pub(crate) fn write_frame<D: Disk>(
         → IsAtRest (D.reads disk.new) (end + length payload.now + 37) (h ++ payload.now ∷ [])) }
     ensures either { IsTrue D.tells → (h : List (List ℕ)) → IsAtRest (D.reads disk.old) end h
         → Reads (D.reads disk.new) h ⊎ Reads (D.reads disk.new) (h ++ payload.now ∷ []) }
+    ensures durable { OnOk result (IsTrue D.tells → Only (D.reads disk.new) (D.images disk.new)) }
+    ensures any_moment { IsTrue D.tells → (h : List (List ℕ)) → IsAtRest (D.reads disk.old) end h → Only (D.reads disk.old) (D.images disk.old)
+        → LeavesOnly D.clock D.since disk.old disk.new (λ c. Reads c h ⊎ Reads c (h ++ payload.now ∷ [])) }
     ensures front { IsTrue D.tells → take end (D.reads disk.new) ≡ take end (D.reads disk.old) }
     ensures room { max_write ≤ vec_capacity buffer.new }
     ensures cause { HasCause (D.faults disk.old) (D.faults disk.new) result }
@@ -94,8 +119,8 @@ pub(crate) fn write_frame<D: Disk>(
         unreachable!()
     };
     // The frame has to be on the disk first: behind a gate that is open, whatever is there would count.
-    write_synced(disk, end + 1, buffer)?;
+    write_behind(disk, end, buffer)?;
     // Only what is on the disk is acknowledged, the open gate too.
-    write_synced(disk, end, &[OPEN])?;
+    open_gate(disk, end)?;
     Ok(())
 }

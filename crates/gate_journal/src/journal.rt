@@ -5,17 +5,18 @@
 //
 // A broken journal has the frames of before, and they can be read. What the failed append left on the disk shows when
 // the journal is opened again: that frame is there whole, or not at all.
-ghost use Rattle.std.specs.Prelude.{◌≡◌, ◌⊎◌, ◌+◌, ◌^◌, ◌<◌, ◌≤◌, ℕ, List, [], ◌∷◌, ◌++◌, map, length, slice_get, slice_index, Some, take, drop, false, IsTrue, IfOk, IfErr, OnOk, OnErr, IsErrOf};
+ghost use Rattle.std.specs.Prelude.{◌≡◌, ◌⊎◌, ◌+◌, ◌^◌, ◌<◌, ◌≤◌, ℕ, List, [], ◌∷◌, ◌++◌, map, length, slice_get, slice_index, Some, take, drop, false, IsTrue, IfOk, IfErr, OnOk, OnErr};
 ghost use Rattle.ev_world.specs.Causes.{Rose};
-ghost use Rattle.gate_journal.specs.Journal.{max_payload, max_journal, Reads};
-ghost use Rattle.gate_journal.specs.Damage.{IsFormatted, Damages, IsOutside, IsOpenFault, IsAppendFault};
-ghost use Rattle.gate_journal.specs.View.{end_from};
-ghost use Rattle.gate_journal.specs.declared.fault.JournalFault.{JournalFault};
+ghost use Rattle.ev_world.specs.Disk.{Only, OnlyReads, LeavesOnly};
+ghost use Rattle.gate_journal.specs.Journal.{max_payload, Reads};
+ghost use Rattle.gate_journal.specs.Damage.{ReadsOnly, IsDamage, IsOpenFault};
+ghost use Rattle.gate_journal.specs.View.{IsKept};
+ghost use Rattle.gate_journal.specs.Appending.{IsAdded, IsNotAdded};
 
 use crate::JournalFault;
 use crate::frame::{Frame, LIMIT, write_frame};
 use crate::opening::read_journal;
-use ev_world::Disk;
+use ev_world::{Disk, read};
 use std::alloc::{AllocError, Global};
 use std::marker::Model;
 
@@ -49,7 +50,7 @@ impl<D: Disk> Model for Journal<D> {
       broken = j.broken;
     } };
 
-    ghost invariant = { λ j. IsJournal D.tells (D.reads j.disk) (map (λ f. f.place) j.frames.items)
+    ghost invariant = { λ j. IsJournal D.tells (D.reads j.disk) (D.images j.disk) (map (λ f. f.place) j.frames.items)
         (map (λ f. f.length) j.frames.items) j.end (vec_capacity j.buffer) j.broken
         × (vec_len j.frames + j.spare ≤ vec_capacity j.frames) };
 }
@@ -58,27 +59,17 @@ impl<D: Disk> Journal<D> {
     /// Opens the journal that stands on a disk, and writes nothing. Where it can't, it hands the disk
     /// back with the first fault: of the header, then of the frames in order.
     pub fn open(alloc: Global, disk: D) -> Result<Journal<D>, (D, JournalFault)>
-        // The payloads are those that the bytes read, and the bytes read no others.
-        ensures reads { IfOk result (λ j. IsTrue D.tells → Reads (D.reads disk) j.payloads) }
-        ensures only { IfOk result (λ j. IsTrue D.tells → (h : List (List ℕ)) → Reads (D.reads disk) h → h ≡ j.payloads) }
-        ensures undamaged { IfOk result (λ j. IsTrue D.tells → (f : JournalFault) → Damages (D.reads disk) f → IsOutside f) }
-        ensures header { IfOk result (λ j. IsTrue D.tells → IsFormatted (D.reads disk)) }
+        ensures read { IfOk result (λ j. IsTrue D.tells → ReadsOnly (D.reads disk) j.payloads) }
         ensures lengths { IfOk result (λ j. IsTrue D.tells → map length j.payloads ≡ j.lengths) }
-        ensures same { IfOk result (λ j. IsTrue D.tells → D.reads j.disk ≡ D.reads disk) }
+        // Every crash from now on leaves these bytes.
+        ensures durable { IfOk result (λ j. IsTrue D.tells → Only (D.reads disk) (D.images j.disk)) }
         ensures whole { IfOk result (λ j. j.broken ≡ false) }
-        ensures ok_later { IfOk result (λ j. D.faults disk ≤ D.faults j.disk) }
+        ensures only_reads { IfOk result (λ j. OnlyReads D.tells D.reads D.images D.clock D.since D.faults disk j.disk) }
 
-        // The bytes have the damage that is answered, and no other; what reads a list of payloads is refused only for a
-        // fault of the disk or want of memory.
         ensures answers { IfErr result (λ e. IsOpenFault e.1) }
-        ensures fault { IfErr result (λ e. IsTrue D.tells → Damages (D.reads disk) e.1) }
-        ensures first { IfErr result (λ e. IsTrue D.tells → (f : JournalFault) → Damages (D.reads disk) f
-            → IsOutside f ⊎ (IsOutside e.1 ⊎ (f ≡ e.1))) }
-        ensures formatted { IfErr result (λ e. IsTrue D.tells → IsFormatted (D.reads disk) ⊎ (IsOutside e.1 ⊎ (e.1 ≡ JournalFault.NotFormatted))) }
-        ensures completes { IfErr result (λ e. IsTrue D.tells → (h : List (List ℕ)) → Reads (D.reads disk) h → IsOutside e.1) }
-        ensures err_same { IfErr result (λ e. IsTrue D.tells → D.reads e.0 ≡ D.reads disk) }
+        ensures damage { IfErr result (λ e. IsTrue D.tells → IsDamage (D.reads disk) e.1) }
         ensures failed { IfErr result (λ e. e.1 ≡ JournalFault.DiskFault → Rose (D.faults disk) (D.faults e.0)) }
-        ensures err_later { IfErr result (λ e. D.faults disk ≤ D.faults e.0) }
+        ensures err_only_reads { IfErr result (λ e. OnlyReads D.tells D.reads D.images D.clock D.since D.faults disk e.0) }
     {
         let mut disk = disk;
         match read_journal(alloc, &mut disk) {
@@ -92,6 +83,13 @@ impl<D: Disk> Journal<D> {
             }),
             Err(fault) => Err((disk, fault)),
         }
+    }
+
+    /// What every open journal keeps: while no append has failed, every crash leaves its frames.
+    pub fn every_crash_leaves_its_frames(&self)
+        ensures { IsTrue D.tells → self.now.broken ≡ false → (c : List ℕ) → D.images self.now.disk c → Reads c self.now.payloads }
+    {
+        let _ = &self.disk;
     }
 
     /// How many frames there are.
@@ -116,17 +114,12 @@ impl<D: Disk> Journal<D> {
         requires entry { entry < length self.old.lengths }
         requires within { from + length out.old ≤ slice_index self.old.lengths entry }
         ensures bytes { OnOk result (IsTrue D.tells → (p : List ℕ) → slice_get self.old.payloads entry ≡ Some p → out.new ≡ take (length out.old) (drop from p)) }
-        ensures lengths { self.new.lengths ≡ self.old.lengths }
-        ensures payloads { IsTrue D.tells → self.new.payloads ≡ self.old.payloads }
-        ensures spare { self.new.spare ≡ self.old.spare }
-        ensures broken { self.new.broken ≡ self.old.broken }
-        ensures same { IsTrue D.tells → D.reads self.new.disk ≡ D.reads self.old.disk }
+        ensures kept { IsKept D.tells D.reads D.images D.clock D.since D.faults self.old self.new }
         ensures answers { IfErr result (λ e. e ≡ JournalFault.DiskFault) }
         ensures failed { OnErr result (Rose (D.faults self.old.disk) (D.faults self.new.disk)) }
-        ensures later { D.faults self.old.disk ≤ D.faults self.new.disk }
     {
         let place = self.frames[entry as usize].place;
-        let Ok(()) = self.disk.read_at(place + 5 + from, out) else {
+        let Ok(()) = read(&mut self.disk, place + 5 + from, out) else {
             return Err(JournalFault::DiskFault);
         };
         Ok(())
@@ -155,34 +148,14 @@ impl<D: Disk> Journal<D> {
         requires size { length payload.now ≤ max_payload }
         requires spare { 1 ≤ self.old.spare }
 
-        ensures number { IfOk result (λ n. n ≡ length self.old.lengths) }
-        ensures lengths { OnOk result (self.new.lengths ≡ self.old.lengths ++ length payload.now ∷ []) }
-        ensures payloads { OnOk result (IsTrue D.tells → self.new.payloads ≡ self.old.payloads ++ payload.now ∷ []) }
-        ensures reads { OnOk result (IsTrue D.tells → Reads (D.reads self.new.disk) self.new.payloads) }
-        ensures spare { OnOk result (self.new.spare + 1 ≡ self.old.spare) }
-        ensures still_open { OnOk result (self.new.broken ≡ false) }
-
-        ensures same_lengths { OnErr result (self.new.lengths ≡ self.old.lengths) }
-        ensures same_payloads { OnErr result (IsTrue D.tells → self.new.payloads ≡ self.old.payloads) }
-        ensures same_spare { OnErr result (self.new.spare ≡ self.old.spare) }
-        // The frame of an append that failed is there whole, or not at all.
-        ensures after_fault { OnErr result (IsTrue D.tells → self.old.broken ≡ false
-            → Reads (D.reads self.new.disk) self.old.payloads ⊎ Reads (D.reads self.new.disk) (self.old.payloads ++ payload.now ∷ [])) }
-
-        // Broken comes exactly where an earlier append failed, and names its frame.
-        ensures is_broken { IsTrue self.old.broken → IsErrOf result (JournalFault.Broken (length self.old.lengths)) }
-        ensures broken { (n : ℕ) → IsErrOf result (JournalFault.Broken n) → IsTrue self.old.broken }
-        ensures idle_broken { (n : ℕ) → IsErrOf result (JournalFault.Broken n) → self.new ≡ self.old }
-
-        // Full comes exactly where the journal would pass its limit, and names the length that it would have.
-        ensures is_full { self.old.broken ≡ false → max_journal < end_from 16 self.old.lengths + length payload.now + 38
-            → IsErrOf result (JournalFault.Full (end_from 16 self.old.lengths + length payload.now + 38)) }
-        ensures full { (n : ℕ) → IsErrOf result (JournalFault.Full n) → (n ≡ end_from 16 self.old.lengths + length payload.now + 38) × (max_journal < n) }
-        ensures idle_full { (n : ℕ) → IsErrOf result (JournalFault.Full n) → self.new ≡ self.old }
-
-        ensures answers { IfErr result IsAppendFault }
-        ensures failed { IsErrOf result JournalFault.DiskFault → Rose (D.faults self.old.disk) (D.faults self.new.disk) }
-        ensures breaks { IsErrOf result JournalFault.DiskFault → IsTrue self.new.broken }
+        ensures added { IfOk result (λ number. IsAdded D.tells D.reads D.images self.old payload.now number self.new) }
+        // Broken and Full come exactly where `append_fault` gives them, and change nothing; DiskFault leaves a broken journal.
+        ensures refused { IfErr result (λ e. IsNotAdded D.tells D.reads D.faults self.old payload.now e self.new) }
+        // A crash at any moment of the call, or after it, leaves the frames of before, or those and the new one.
+        ensures any_moment { IsTrue D.tells → self.old.broken ≡ false → LeavesOnly D.clock D.since self.old.disk self.new.disk
+            (λ c. Reads c self.old.payloads ⊎ Reads c (self.old.payloads ++ payload.now ∷ [])) }
+        ensures left { IsTrue D.tells → self.old.broken ≡ false → (c : List ℕ) → D.images self.new.disk c
+            → Reads c self.old.payloads ⊎ Reads c (self.old.payloads ++ payload.now ∷ []) }
         ensures later { D.faults self.old.disk ≤ D.faults self.new.disk }
     {
         let number = self.frames.len() as u64;

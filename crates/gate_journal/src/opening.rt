@@ -1,14 +1,15 @@
 // Opening reads the frames one by one, up to the first gate that is closed: two reads a frame.
-ghost use Rattle.std.specs.Prelude.{◌≡◌, map, ◌+◌, ◌^◌, ◌<◌, ◌≤◌, ◌++◌, ◌↔◌, drop, take, length, IsTrue, IfOk, IfSome, IfErr, IsErrOf, vec_capacity};
+ghost use Rattle.std.specs.Prelude.{◌≡◌, map, ◌+◌, ◌^◌, ◌<◌, ◌≤◌, ◌↔◌, drop, length, IsTrue, IfOk, IfSome, IfErr, IsErrOf, vec_capacity};
 ghost use Rattle.std.specs.Int.{w32, to_be_bytes, from_be_bytes};
 ghost use Rattle.ev_world.specs.Causes.{Rose, HasCause};
+ghost use Rattle.ev_world.specs.Disk.{Only, IsQuiet, OnlyReads};
 ghost use Rattle.gate_journal.specs.Journal.{max_payload, max_journal};
 ghost use Rattle.gate_journal.specs.Damage.{IsFormatted, Damages, IsOpenFault};
 ghost use Rattle.gate_journal.specs.Inside.{max_write, IsGate, IsNext, IsFaultAt, IsFound};
 
 use crate::JournalFault;
 use crate::frame::{BUFFER, Frame, HEADER, LIMIT, MAX_PAYLOAD, is_open};
-use ev_world::{Disk, Failed};
+use ev_world::{Disk, Failed, read, settle, size_of};
 use hash_kit::{HashAlg, HashValue, digest};
 use std::alloc::Global;
 
@@ -24,14 +25,14 @@ fn is_formatted<D: Disk>(disk: &mut D, size: u64) -> Result<bool, Failed>
     requires { IsTrue D.tells → size ≡ length (D.reads disk.old) }
     ensures is { IfOk result (λ b. IsTrue D.tells → (IsTrue b ↔ IsFormatted (D.reads disk.old))) }
     ensures size { IfOk result (λ b. IsTrue b → 17 ≤ size) }
-    ensures same { IsTrue D.tells → D.reads disk.new ≡ D.reads disk.old }
+    ensures quiet { IsTrue D.tells → IsQuiet D.reads D.images D.clock D.since disk.old disk.new }
     ensures cause { HasCause (D.faults disk.old) (D.faults disk.new) result }
 {
     if size < 17 {
         return Ok(false);
     }
     let mut start = [0; 16];
-    disk.read_at(0, &mut start)?;
+    read(disk, 0, &mut start)?;
     Ok(start == HEADER)
 }
 
@@ -41,13 +42,13 @@ fn read_gate<D: Disk>(disk: &mut D, place: u64, size: u64) -> Result<Option<u64>
     requires within { place + 1 ≤ size }
     ensures gate { IfOk result (λ o. IsTrue D.tells → IsGate (drop place (D.reads disk.old)) o) }
     ensures fits { IfOk result (λ o. IfSome o (λ n. n + 1 ≤ 2 ^ 32)) }
-    ensures same { IsTrue D.tells → D.reads disk.new ≡ D.reads disk.old }
+    ensures quiet { IsTrue D.tells → IsQuiet D.reads D.images D.clock D.since disk.old disk.new }
     ensures cause { HasCause (D.faults disk.old) (D.faults disk.new) result }
 {
     let left = size - place;
     let room = if left < 5 { left as usize } else { 5 };
     let mut head = [0; 5];
-    disk.read_at(place, &mut head[..room])?;
+    read(disk, place, &mut head[..room])?;
     if is_open(head[0]) {
         Ok(Some(length_of(&head)))
     } else {
@@ -89,8 +90,7 @@ fn next_frame<D: Disk>(
     ensures answers { IfErr result IsOpenFault }
     ensures fault { IfErr result (λ e. IsTrue D.tells → IsFaultAt (drop place (D.reads disk.old)) place entry e) }
     ensures failed { IsErrOf result JournalFault.DiskFault → Rose (D.faults disk.old) (D.faults disk.new) }
-    ensures later { D.faults disk.old ≤ D.faults disk.new }
-    ensures same { IsTrue D.tells → D.reads disk.new ≡ D.reads disk.old }
+    ensures only_reads { OnlyReads D.tells D.reads D.images D.clock D.since D.faults disk.old disk.new }
     ensures room { max_write ≤ vec_capacity buffer.new }
 {
     let Some(length) = read_gate(disk, place, size)? else {
@@ -102,7 +102,7 @@ fn next_frame<D: Disk>(
     let end = length as usize + 32;
     fill_up(buffer, end);
     let body = &mut buffer[..end];
-    disk.read_at(place + 5, body)?;
+    read(disk, place + 5, body)?;
     let (payload, kept) = body.split_at(length as usize);
     let found = digest(HashAlg::Sha256, payload);
     if found.bytes() == kept {
@@ -142,10 +142,9 @@ fn read_frames<D: Disk>(
     ensures answers { IfErr result IsOpenFault }
     ensures fault { IfErr result (λ e. IsTrue D.tells → Damages (D.reads disk.old) e) }
     ensures failed { IsErrOf result JournalFault.DiskFault → Rose (D.faults disk.old) (D.faults disk.new) }
-    ensures later { D.faults disk.old ≤ D.faults disk.new }
-    ensures same { IsTrue D.tells → D.reads disk.new ≡ D.reads disk.old }
+    ensures only_reads { OnlyReads D.tells D.reads D.images D.clock D.since D.faults disk.old disk.new }
 {
-    let size = disk.len()?;
+    let size = size_of(disk)?;
     if !is_formatted(disk, size)? {
         return Err(JournalFault::NotFormatted);
     }
@@ -170,14 +169,14 @@ pub(crate) fn read_journal<D: Disk>(
 ) -> Result<(Found, Vec<u8>), JournalFault>
     ensures found { IfOk result (λ r. IsFound D.tells (D.reads disk.old) (map (λ f. f.place) r.0.frames.items) (map (λ f. f.length) r.0.frames.items) r.0.end) }
     ensures room { IfOk result (λ r. max_write ≤ vec_capacity r.1) }
+    ensures durable { IfOk result (λ r. IsTrue D.tells → Only (D.reads disk.old) (D.images disk.new)) }
     ensures answers { IfErr result IsOpenFault }
     ensures fault { IfErr result (λ e. IsTrue D.tells → Damages (D.reads disk.old) e) }
     ensures failed { IsErrOf result JournalFault.DiskFault → Rose (D.faults disk.old) (D.faults disk.new) }
-    ensures later { D.faults disk.old ≤ D.faults disk.new }
-    ensures same { IsTrue D.tells → D.reads disk.new ≡ D.reads disk.old }
+    ensures only_reads { OnlyReads D.tells D.reads D.images D.clock D.since D.faults disk.old disk.new }
 {
     // What is told of has to be what a crash leaves.
-    let Ok(()) = disk.sync() else {
+    let Ok(()) = settle(disk) else {
         return Err(JournalFault::DiskFault);
     };
     let Ok(mut buffer) = Vec::with_capacity(alloc, BUFFER) else {

@@ -1,5 +1,6 @@
 use Rattle.std.proofs.Common.{◌≡◌, map, ◌+◌, ◌-◌, ◌≤◌, length, IsTrue}
 use Rattle.std.specs.Prelude.{vec_capacity}
+use Rattle.ev_world.specs.Disk.{OnlyReads}
 use Rattle.gate_journal.specs.Journal.{max_journal}
 use Rattle.gate_journal.specs.View.{end_from}
 use Rattle.gate_journal.specs.Inside.{max_write, places_from}
@@ -17,8 +18,7 @@ invariant-frames g l =
       buffer : max_write ≤ vec_capacity l.buffer;
       places : map (λ (f : Frame). f.place) l.frames.items ≡ places_from 16 lengths;
       end : l.place ≡ end_from 16 lengths;
-      later : d.faults l.fn.disk ≤ d.faults l.disk;
-      same : IsTrue d.tells → d.reads l.disk ≡ d.reads l.fn.disk;
+      only_reads : OnlyReads d.tells d.reads d.images d.clock d.since d.faults l.fn.disk l.disk;
       size : IsTrue d.tells → l.size ≡ length (d.reads l.fn.disk);
       so_far : IsTrue d.tells → SoFar (d.reads l.fn.disk) l.place lengths;
     }
