@@ -2,7 +2,8 @@
 use Rattle.std.proofs.Common.{rules, ◌≡◌, ℕ, zero, suc, ◌+◌, ◌<◌, ◌≤◌, min, true, false, List, [], ◌∷◌, ◌++◌, length, take, drop, replicate, refl, sym, ◌∙◌, ap, subst, arith, length-take, length-drop, append_assoc}
 use Rattle.std.proofs.lemmas.List.{drop-drop, drop_all, take_all, append-nil, length-replicate, replicate-append-replicate, take-take, drop-take, drop-append-le}
 use Rattle.std.specs.Prelude.{Result, Ok, Err, OnOk}
-use Rattle.ev_world.specs.Disk.{Holds, Torn, After, Follows, Only}
+use Rattle.ev_world.specs.Disk.{Holds, Torn, After, Follows, Only, IsQuiet, LeavesOnly, WritesOnly}
+use Rattle.ev_world.proofs.Writes.{over_first, behind_reads}
 use Rattle.key_state.specs.Keys.{header, used, next_index, IsKeys}
 use Rattle.key_state.specs.View.{IsUsedTo, IsState}
 use Rattle.key_state.proofs.UsedLemmas.{count, used_behind, used_over, kept}
@@ -110,3 +111,23 @@ on_ok (Err e) P Q more here = tt
 pub on_both : {T E : Type 0} (answer : Result T E) (P Q R : Type 0) → (P → Q → R) → OnOk answer P → OnOk answer Q → OnOk answer R
 on_both (Ok x) P Q R more p q = more p q
 on_both (Err e) P Q R more p q = tt
+
+-- where nothing stands behind it
+pub made_keys : (leaves : ℕ) (old new : List ℕ) → new ≡ header ++ replicate leaves 0 ++ drop (16 + leaves) old → length old ≤ 16 + leaves → IsKeys new leaves
+made_keys leaves old new is short =
+    let whole : new ≡ header ++ replicate leaves 0 = is ∙ ap (λ (f : List ℕ). header ++ replicate leaves 0 ++ f) (drop_all (16 + leaves) old short) ∙ ap (λ (f : List ℕ). header ++ f) (append-nil (replicate leaves 0)) in
+    record { starts = ap (take 16) whole; size = omega (arith, ap length whole, length-replicate {A = ℕ} leaves 0) }
+
+-- ---- a crash while a state is made
+
+-- the bytes of the indexes are written, and then the header over their front
+module _ {D : Type 0} (reads : D → List ℕ) (images : D → List ℕ → Type 0) (clock : D → ℕ) (since : D → ℕ → List ℕ → Type 0) (old mid new last : D) (n m : ℕ) (same : n ≡ m)
+    (quiet : IsQuiet reads images clock since old mid) (unused : WritesOnly reads images clock since mid new 0 n) where
+  first : WritesOnly reads images clock since mid new 0 m
+  first = subst (WritesOnly reads images clock since mid new 0) same unused
+
+  pub unused_moment : LeavesOnly clock since old new (After (Torn 0 m) (images old))
+  unused_moment = behind_reads clock since images old mid new m reads quiet first.any_moment
+
+  pub header_moment : 16 ≤ m → WritesOnly reads images clock since new last 0 16 → LeavesOnly clock since old last (After (Torn 0 m) (images old))
+  header_moment less header = behind_reads clock since images old mid last m reads quiet (over_first clock since images mid new last m 16 less first.any_moment first.crash header.any_moment)
