@@ -13,9 +13,9 @@ use Rattle.cms_signed.specs.declared.attributes.SignedAttributes.{SignedAttribut
 use Rattle.cms_signed.specs.declared.fault.CmsFault.{CmsFault}
 use Rattle.cms_signed.specs.State.{State, start}
 use Rattle.cms_signed.specs.Checks.{cms_checks}
-use Rattle.cms_signed.specs.Attributes.{attributes, AttributesParts, encoded, attributes_in}
+use Rattle.cms_signed.specs.Attributes.{attributes, AttributesParts, encoded}
 use Rattle.cms_signed.specs.Signed.{attributes_named, as_set}
-use Rattle.cms_signed.specs.Inside.{kept_by, attributes_seen}
+use Rattle.cms_signed.specs.Inside.{kept_by, attributes_seen, attributes_in}
 
 attributes_text : (v : Item) (p : AttributesParts) (σ : State) → IsBytes v.content → read cms_checks attributes start (contents v) ≡ Ok (p, σ) → spell attributes p ≡ v.content
 attributes_text v p σ fits e = sym (takes cms_checks attributes start (contents v) p σ fits e).spelled

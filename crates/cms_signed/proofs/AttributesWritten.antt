@@ -20,7 +20,7 @@ use Rattle.cms_signed.specs.Checks.{CmsCheck, cms_checks, in_order, none_of_its_
 use Rattle.cms_signed.specs.Attributes.{certificate_id, certificate_ids, signing_certificate, attribute_values, attribute, attributes, AttributeParts, AttributesParts, ValuesParts, SigningCertificateParts}
 use Rattle.cms_signed.specs.Signed.{kept}
 use Rattle.cms_signed.specs.Text.{ToSign, certificate_text, attributes_text}
-use Rattle.cms_signed.proofs.Anywhere.{Anywhere, AnyValue, PassesHeader, nothing_valid, unread_valid, value_anywhere, required_valid, absent_valid, checkpoint_valid, first_valid, second_valid, leaf_anywhere, repeated_valid}
+use Rattle.der_values.proofs.Anywhere.{Anywhere, AnyValue, PassesHeader, nothing_valid, unread_valid, value_anywhere, required_valid, absent_valid, checkpoint_valid, first_valid, second_valid, leaf_anywhere, repeated_valid}
 use Rattle.cms_signed.proofs.AttributeOrder.{short_value, short_length, is_above, is_not_below}
 
 -- ---- the parts, and their texts

@@ -1,9 +1,10 @@
 pub mod AttributesText
 pub mod Named
 pub mod Room
-pub mod Anywhere
 pub mod AttributeOrder
 pub mod AttributesWritten
 pub mod TokenWritten
+pub mod Listed
+pub mod Handed
 pub mod Answered
 pub mod StandardFacts

@@ -4,8 +4,8 @@ use Rattle.std.specs.Prelude.{IsOkAnd}
 use Rattle.cms_signed.specs.declared.fault.CmsFault.{CmsFault}
 use Rattle.cms_signed.specs.declared.token.Signed.{Signed}
 use Rattle.cms_signed.specs.State.{State}
-use Rattle.cms_signed.specs.Signed.{Parts, NamedParts, named}
-use Rattle.cms_signed.specs.Inside.{signed_seen, named_seen}
+use Rattle.cms_signed.specs.Signed.{Parts, NamedParts, named, signed_seen}
+use Rattle.cms_signed.specs.Inside.{named_seen}
 
 some_is : {A : Type 0} (x y : A) → ◌≡◌ {A = Option A} (Some x) (Some y) → x ≡ y
 some_is x y e = cc

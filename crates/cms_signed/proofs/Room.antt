@@ -1,21 +1,18 @@
 -- What stands inside a value is not longer than it.
 use Rattle.std.proofs.Common.{ℕ, ◌+◌, ◌<◌, ◌≤◌, eqb, List, [], ◌∷◌, ◌++◌, ◌^◌, length, arith, length-append}
 use Rattle.std.proofs.lemmas.Bool.{cond_both}
-use Rattle.der_values.specs.Value.{length_octets, value}
+use Rattle.der_values.specs.Value.{value}
 use Rattle.hash_kit.specs.declared.algorithm.HashAlg.TheVariants.{Sha256}
 use Rattle.hash_kit.specs.Algorithm.{oid_of}
 use Rattle.hash_kit.specs.Digest.{digest_of}
 use Rattle.hash_kit.proofs.Sizes.{length-digest_of}
 use Rattle.der_values.proofs.Values.{value_length}
+use Rattle.der_values.proofs.Lengths.{content_shorter}
 use Rattle.cms_signed.specs.declared.fault.AttrKind.{AttrKind}
 use Rattle.cms_signed.specs.declared.fault.AttrKind.TheVariants.{ContentType, MessageDigest, SigningCertificate}
 use Rattle.cms_signed.specs.Names.{id_signed_data, id_tst_info, id_hss_lms, type_of}
 use Rattle.cms_signed.specs.Text.{ToSign, algorithm_text, attribute_text, certificate_text, attributes_text, version_of, signer_contents, encap_contents, content_text, signed_data_contents, token_contents, IsSid, HasText}
 use Rattle.cms_signed.specs.Inside.{HasRoom}
-
-pub within : (tag : ℕ) (content : List ℕ) → length content ≤ length (value tag content)
-unfolding value
-within tag content = omega (arith, length-append (length_octets (length content)) content)
 
 first_of : (a b : List ℕ) → length a ≤ length (a ++ b)
 first_of a b = omega (arith, length-append a b)
@@ -26,7 +23,7 @@ last_of a b = omega (arith, length-append a b)
 data_within : (u : ToSign) (signature : List ℕ) → length (value 0x30 (signed_data_contents u signature)) ≤ length (token_contents u signature)
 data_within u signature =
     let whole = value 0x30 (signed_data_contents u signature) in
-    omega (arith, within 0xa0 whole, last_of (value 0x06 id_signed_data) (value 0xa0 whole))
+    omega (arith, content_shorter 0xa0 whole, last_of (value 0x06 id_signed_data) (value 0xa0 whole))
 
 -- the version and the digest algorithms of a SignedData
 abbrev front : List ℕ
@@ -35,7 +32,7 @@ front = value 0x02 (3 ∷ []) ++ value 0x31 (algorithm_text (oid_of Sha256))
 signers_within : (u : ToSign) (signature : List ℕ) → length (value 0x30 (signer_contents u signature)) ≤ length (signed_data_contents u signature)
 signers_within u signature =
     let signer = value 0x30 (signer_contents u signature) in
-    omega (arith, within 0x31 signer, last_of (front ++ content_text u.content) (value 0x31 signer))
+    omega (arith, content_shorter 0x31 signer, last_of (front ++ content_text u.content) (value 0x31 signer))
 
 encap_within : (u : ToSign) (signature : List ℕ) → length (content_text u.content) ≤ length (signed_data_contents u signature)
 encap_within u signature =
@@ -43,20 +40,20 @@ encap_within u signature =
 
 explicit_within : (content : List ℕ) → length (value 0x04 content) ≤ length (encap_contents content)
 explicit_within content =
-    omega (arith, within 0xa0 (value 0x04 content), last_of (value 0x06 id_tst_info) (value 0xa0 (value 0x04 content)))
+    omega (arith, content_shorter 0xa0 (value 0x04 content), last_of (value 0x06 id_tst_info) (value 0xa0 (value 0x04 content)))
 
 signature_within : (u : ToSign) (signature : List ℕ) → length signature ≤ length (signer_contents u signature)
 signature_within u signature =
     let signed = value 0x02 (version_of u.sid) ++ u.sid ++ algorithm_text (oid_of Sha256) ++ value 0xa0 (attributes_text u) ++ algorithm_text id_hss_lms in
-    omega (arith, within 0x04 signature, last_of signed (value 0x04 signature))
+    omega (arith, content_shorter 0x04 signature, last_of signed (value 0x04 signature))
 
 pub has_room : (u : ToSign) (signature : List ℕ) → length (token_contents u signature) < 2 ^ 32 → HasRoom u signature
 has_room u signature short =
     let whole : length (value 0x30 (signed_data_contents u signature)) < 2 ^ 32 = omega (arith, short, data_within u signature) in
-    let contents : length (signed_data_contents u signature) < 2 ^ 32 = omega (arith, whole, within 0x30 (signed_data_contents u signature)) in
+    let contents : length (signed_data_contents u signature) < 2 ^ 32 = omega (arith, whole, content_shorter 0x30 (signed_data_contents u signature)) in
     let signers : length (value 0x30 (signer_contents u signature)) < 2 ^ 32 = omega (arith, contents, signers_within u signature) in
-    let signer : length (signer_contents u signature) < 2 ^ 32 = omega (arith, signers, within 0x30 (signer_contents u signature)) in
-    let encap : length (encap_contents u.content) < 2 ^ 32 = omega (arith, contents, encap_within u signature, within 0x30 (encap_contents u.content)) in
+    let signer : length (signer_contents u signature) < 2 ^ 32 = omega (arith, signers, content_shorter 0x30 (signer_contents u signature)) in
+    let encap : length (encap_contents u.content) < 2 ^ 32 = omega (arith, contents, encap_within u signature, content_shorter 0x30 (encap_contents u.content)) in
     let explicit : length (value 0x04 u.content) < 2 ^ 32 = omega (arith, encap, explicit_within u.content) in
     record {
       signed_data = contents;
@@ -65,7 +62,7 @@ has_room u signature short =
       octets = omega (arith, signer, signature_within u signature);
       encap = encap;
       explicit = explicit;
-      content = omega (arith, explicit, within 0x04 u.content);
+      content = omega (arith, explicit, content_shorter 0x04 u.content);
     }
 
 pub data_short : (u : ToSign) (signature : List ℕ) → length (token_contents u signature) < 2 ^ 32 → length (value 0x30 (signed_data_contents u signature)) < 2 ^ 32

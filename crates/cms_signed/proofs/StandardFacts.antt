@@ -10,8 +10,9 @@ use Rattle.der_values.specs.Order.{set_order_of}
 use Rattle.der_values.specs.Reading.{read}
 use Rattle.cms_signed.specs.declared.fault.AttrKind.TheVariants.{ContentType, MessageDigest, SigningCertificate}
 use Rattle.cms_signed.specs.declared.fault.CmsFault.TheVariants as faults
-use Rattle.cms_signed.specs.Names.{id_tst_info, is_sha256, is_hss_lms}
+use Rattle.cms_signed.specs.Names.{type_of, id_tst_info, is_sha256, is_hss_lms}
 use Rattle.cms_signed.specs.Checks.{fits, kind_of, signed_data_at}
+use Rattle.cms_signed.specs.AttributeList.{attribute_spelling, of_kind, one_of}
 use Rattle.cms_signed.specs.Signed.{first_fault, as_set}
 use Rattle.cms_signed.specs.Text.{attribute_text, certificate_text, version_of}
 
@@ -21,6 +22,12 @@ pub known_attributes : (length (attribute_text ContentType (value 6 id_tst_info)
     × (length (attribute_text SigningCertificate (certificate_text (replicate 32 7))) ≡ 57)
 unfolding value length_octets extra
 known_attributes = (refl, refl, refl)
+
+-- a content-type in a list, 30 1a 06 09 .. 31 0d 06 0b .., beside an attribute of the type 1.2
+pub known_list : (attribute_spelling (record { type = type_of ContentType; values = value 6 id_tst_info }) ≡ attribute_text ContentType (value 6 id_tst_info))
+    × (of_kind ContentType (record { type = 42 ∷ []; values = [] } ∷ one_of ContentType (5 ∷ 0 ∷ [])) ≡ one_of ContentType (5 ∷ 0 ∷ []))
+    × (of_kind MessageDigest (record { type = 42 ∷ []; values = [] } ∷ one_of ContentType (5 ∷ 0 ∷ [])) ≡ [])
+known_list = (refl, refl, refl)
 
 -- 30 2f .. goes before 30 2f 06 0b .., and behind 30 2e ..
 pub known_order : (is_gt (set_order_of (attribute_text MessageDigest (value 4 (replicate 32 255))) (attribute_text SigningCertificate (certificate_text (replicate 24 0)))) ≡ false)

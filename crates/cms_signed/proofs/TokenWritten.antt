@@ -18,8 +18,8 @@ use Rattle.cms_signed.specs.Checks.{CmsCheck, cms_checks, content_is_signed_data
 use Rattle.cms_signed.specs.Attributes.{attributes}
 use Rattle.cms_signed.specs.Signed.{algorithms, octets_in_0, encap_content_info, signature_info, signer_info, signer_infos, end_of_signed_data, signed_data, signed_data_in_0, content_info, token, ContentParts, SignatureParts, SignerParts, SignersParts, SignedDataParts, ContentInfoParts, kept, token_named, named, ReadsSigned}
 use Rattle.cms_signed.specs.Text.{ToSign, algorithm_text, version_of, signer_contents, encap_contents, signed_data_contents, token_contents, token_text, written, HasText}
-use Rattle.cms_signed.proofs.Room.{within}
-use Rattle.cms_signed.proofs.Anywhere.{Anywhere, AnyValue, PassesHeader, PassesEnd, nothing_valid, value_anywhere, required_valid, absent_valid, leaf_anywhere, repeated_valid}
+use Rattle.der_values.proofs.Lengths.{content_shorter}
+use Rattle.der_values.proofs.Anywhere.{Anywhere, AnyValue, PassesHeader, PassesEnd, nothing_valid, value_anywhere, required_valid, absent_valid, leaf_anywhere, repeated_valid}
 use Rattle.cms_signed.proofs.AttributesWritten.{written_attributes, attributes_spelled, attributes_valid}
 
 -- ---- the parts
@@ -234,7 +234,7 @@ module _ (u : ToSign) (signature : List ℕ) (tag : ℕ) (content : List ℕ) (k
   unfolding spell
   signer_short short =
       let inner = spell signer_info (signer_parts u signature sid) in
-      omega (arith, short, within 48 inner, length-append (value 48 inner) [])
+      omega (arith, short, content_shorter 48 inner, length-append (value 48 inner) [])
 
   set_valid : AnyValue cms_checks 49 (checked one_signer) signer_infos start (signer_parts u signature sid, tt) end
   set_valid short place = record {

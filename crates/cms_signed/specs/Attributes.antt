@@ -3,16 +3,11 @@
 --   Attribute ::= SEQUENCE { attrType OBJECT IDENTIFIER, attrValues SET OF AttributeValue }         (RFC 5652, 5.3)
 --   SigningCertificateV2 ::= SEQUENCE { certs SEQUENCE OF ESSCertIDv2, policies .. OPTIONAL }       (RFC 5035, 3)
 --   ESSCertIDv2 ::= SEQUENCE { hashAlgorithm AlgorithmIdentifier DEFAULT id-sha256, certHash OCTET STRING, .. }  (4)
-use Rattle.std.specs.Prelude.{ℕ, List, length, Option, ◌⊎◌}
-use Rattle.der_values.specs.Input.{Input, Item}
+use Rattle.std.specs.Prelude.{ℕ, List, Option, ◌⊎◌}
 use Rattle.der_values.specs.Value.{value}
 use Rattle.der_values.specs.Shape.{tagged, unchecked, checked, checked_whole, Shape, nothing_more, unread, required, optional, repeated, checkpoint, depending, spell}
-use Rattle.der_values.specs.Reading.{Reading, body, body_optional, read_each, read}
 use Rattle.der_values.specs.Algorithm.{algorithm_shape, AlgorithmParts}
-use Rattle.cms_signed.specs.declared.fault.CmsFault.{CmsFault}
-use Rattle.cms_signed.specs.declared.fault.CmsFault.TheVariants.{Der}
-use Rattle.cms_signed.specs.State.{State, start}
-use Rattle.cms_signed.specs.Checks.{CmsCheck, in_order, none_of_its_kind_before, is_content_type, is_message_digest, is_signing_certificate, names_tst_info, digest_kept, hash_judged, certificate_kept, none_missing, cms_checks}
+use Rattle.cms_signed.specs.Checks.{CmsCheck, in_order, none_of_its_kind_before, is_content_type, is_message_digest, is_signing_certificate, names_tst_info, digest_kept, hash_judged, certificate_kept, none_missing}
 
 -- ---- the tables
 
@@ -27,6 +22,7 @@ certificate_id =
 abbrev pub certificate_ids : Shape CmsCheck
 certificate_ids = required (tagged 0x30) unchecked certificate_id unread
 
+-- what stands in SigningCertificateV2
 abbrev pub signing_certificate : Shape CmsCheck
 signing_certificate = required (tagged 0x30) unchecked certificate_ids unread
 
@@ -38,12 +34,14 @@ attribute_values =
     depending is_signing_certificate (required (tagged 0x30) unchecked signing_certificate nothing_more)
     unread))
 
+-- Attribute: its type, which decides what its values are
 abbrev pub attribute : Shape CmsCheck
 attribute =
     required (tagged 0x06) (checked none_of_its_kind_before) unread (
     required (tagged 0x31) unchecked attribute_values
     nothing_more)
 
+-- the signed attributes, in the order of a SET OF, none of the known kinds missing
 abbrev pub attributes : Shape CmsCheck
 attributes = repeated (tagged 0x30) (checked in_order) attribute (checkpoint none_missing nothing_more)
 
@@ -67,29 +65,3 @@ AttributesParts = List AttributeParts × Unit {0}
 -- the signed attributes as they stand in a SignerInfo, under the tag [0]
 abbrev pub encoded : AttributesParts → List ℕ
 encoded p = value 0xa0 (spell attributes p)
-
--- ---- the readings
-
-abbrev pub hash_algorithm_in : State → Option Item → Reading (Option AlgorithmParts) State CmsFault
-hash_algorithm_in σ v = body_optional (body cms_checks (tagged 0x30) (checked_whole hash_judged) (read cms_checks algorithm_shape)) σ v
-
-abbrev pub certificate_id_in : State → Item → Reading CertificateIdParts State CmsFault
-certificate_id_in σ v = body cms_checks (tagged 0x30) unchecked (read cms_checks certificate_id) σ v
-
-abbrev pub certificate_ids_in : State → Item → Reading (CertificateIdParts × List ℕ) State CmsFault
-certificate_ids_in σ v = body cms_checks (tagged 0x30) unchecked (read cms_checks certificate_ids) σ v
-
-abbrev pub signing_certificate_in : State → Item → Reading SigningCertificateParts State CmsFault
-signing_certificate_in σ v = body cms_checks (tagged 0x30) unchecked (read cms_checks signing_certificate) σ v
-
-abbrev pub values_in : State → Item → Reading ValuesParts State CmsFault
-values_in σ v = body cms_checks (tagged 0x31) unchecked (read cms_checks attribute_values) σ v
-
-abbrev pub attribute_in : State → Item → Reading AttributeParts State CmsFault
-attribute_in σ v = body cms_checks (tagged 0x30) (checked in_order) (read cms_checks attribute) σ v
-
-abbrev pub each_attribute : Input → Reading (List AttributeParts) State CmsFault
-each_attribute input = read_each Der (tagged 0x30) attribute_in (length input.left) start input
-
-abbrev pub attributes_in : State → Item → Reading AttributesParts State CmsFault
-attributes_in σ v = body cms_checks (tagged 0xa0) unchecked (read cms_checks attributes) σ v

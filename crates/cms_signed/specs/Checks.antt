@@ -2,7 +2,6 @@
 use Rattle.std.specs.Prelude.{ℕ, Bool, true, false, not, ◌&&◌, ◌||◌, List, [], ◌∷◌, length, Option, Some, None, Result, Ok, Err, ◌==◌, if◌then◌else◌, find}
 use Rattle.std.specs.Ordering.{is_gt}
 use Rattle.std.specs.Str.{bytes_eq}
-use Rattle.der_values.specs.declared.fault.DerFault.{DerFault}
 use Rattle.der_values.specs.Input.{Input, Item}
 use Rattle.der_values.specs.Value.{value}
 use Rattle.der_values.specs.Steps.{◌>>=◌, lift}
@@ -10,7 +9,7 @@ use Rattle.der_values.specs.Next.{contents}
 use Rattle.der_values.specs.Typed.{integer_of, oid_of}
 use Rattle.der_values.specs.Order.{set_order_of}
 use Rattle.der_values.specs.Shape.{any_tag, unchecked, Shape, nothing_more, unread, repeated, Checks}
-use Rattle.der_values.specs.Reading.{Reading, body, read_each, read}
+use Rattle.der_values.specs.Reading.{read}
 use Rattle.der_values.specs.Algorithm.{NoChecks, plain, name_of, algorithm_of}
 use Rattle.cms_signed.specs.declared.fault.AttrKind.{AttrKind}
 use Rattle.cms_signed.specs.declared.fault.AttrKind.TheVariants as kinds
@@ -19,6 +18,7 @@ use Rattle.cms_signed.specs.declared.fault.CmsFault.TheVariants.{Der, NotSignedD
 use Rattle.cms_signed.specs.Names.{id_signed_data, id_tst_info, type_of, known_kinds, is_sha256, is_hss_lms}
 use Rattle.cms_signed.specs.State.{State, start, has_come}
 
+-- the names of the checks
 pub data CmsCheck : Type 0 where
   -- of ContentInfo, SignedData and what is signed
   content_is_signed_data : CmsCheck
@@ -61,18 +61,13 @@ tst_info_at σ v = lift Der (oid_of v) >>= λ oid. demand (bytes_eq oid id_tst_i
 abbrev pub values_shape : Shape NoChecks
 values_shape = repeated any_tag unchecked unread nothing_more
 
-abbrev pub value_in : Unit {0} → Item → Reading (ℕ × List ℕ) (Unit {0}) DerFault
-value_in σ v = body plain any_tag unchecked (read plain unread) σ v
-
-abbrev pub each_value : Input → Reading (List (ℕ × List ℕ)) (Unit {0}) DerFault
-each_value input = read_each (λ e. e) any_tag value_in (length input.left) tt input
-
 -- the signers are counted by their headers, before the first is read
 unfoldable pub one_signer_at : State → Item → Result State CmsFault
 one_signer_at σ v = lift Der (read plain values_shape tt (contents v)) >>= λ x. demand (length x.0.0 == 1) (Signers (length x.0.0)) σ
 
 -- ---- SignerInfo (RFC 5652, 5.3)
 
+-- version INTEGER, which is judged at the identifier (RFC 5652, 5.3)
 unfoldable pub signer_version_at : State → Item → Result State CmsFault
 signer_version_at σ v = lift Der (integer_of v) >>= λ n. Ok (record σ { version = n })
 
@@ -88,6 +83,7 @@ sid_at σ v = demand (fits σ.version v.tag) SignerVersion start
 unfoldable pub digest_algorithm_at : State → Item → Result State CmsFault
 digest_algorithm_at σ v = lift Der (algorithm_of (contents v)) >>= λ x. demand (is_sha256 (name_of x.0)) DigestAlg σ
 
+-- signatureAlgorithm, which has to be HSS/LMS
 unfoldable pub signature_algorithm_at : State → Item → Result State CmsFault
 signature_algorithm_at σ v = lift Der (algorithm_of (contents v)) >>= λ x. demand (is_hss_lms (name_of x.0)) SignatureAlg σ
 
@@ -101,13 +97,16 @@ attribute_at σ v = if is_gt (set_order_of σ.before (value v.tag v.content)) th
 abbrev pub kind_of : List ℕ → Option AttrKind
 kind_of oid = find (λ kind. bytes_eq oid (type_of kind)) known_kinds
 
+-- no attribute of a known kind comes twice
 abbrev pub first_of_kind : State → Option AttrKind → Result State CmsFault
 first_of_kind σ None = Ok (record σ { kind = None })
 first_of_kind σ (Some kind) = demand (not (has_come σ kind)) (DoubleAttr kind) (record σ { kind = Some kind })
 
+-- attrType, an OBJECT IDENTIFIER that no attribute before has where its kind is known
 unfoldable pub type_at : State → Item → Result State CmsFault
 type_at σ v = lift Der (oid_of v) >>= λ oid. first_of_kind σ (kind_of oid)
 
+-- the attribute that is read is of this kind
 abbrev pub is_kind : AttrKind → Option AttrKind → Bool
 is_kind kind None = false
 is_kind kinds.ContentType (Some kinds.ContentType) = true
@@ -115,6 +114,7 @@ is_kind kinds.MessageDigest (Some kinds.MessageDigest) = true
 is_kind kinds.SigningCertificate (Some kinds.SigningCertificate) = true
 is_kind kind (Some other) = false
 
+-- the value of content-type, which has to be id-ct-TSTInfo
 unfoldable pub content_type_at : State → Item → Result State CmsFault
 content_type_at σ v = tst_info_at (record σ { content_type = true }) v
 
@@ -131,6 +131,7 @@ abbrev pub named_missing : State → Option AttrKind → Result State CmsFault
 named_missing σ None = Ok (record start { message_digest = σ.message_digest; certificate = σ.certificate })
 named_missing σ (Some kind) = Err (MissingAttr kind)
 
+-- what has come is kept, unless a known kind is missing: the first of them in their order
 unfoldable pub missing_of : State → Result State CmsFault
 missing_of σ = named_missing σ (find (λ kind. not (has_come σ kind)) known_kinds)
 

@@ -1,9 +1,10 @@
 -- The object identifiers of a signed time-stamp, by their contents octets.
-use Rattle.std.specs.Prelude.{ℕ, Bool, List, [], ◌∷◌, ◌&&◌, true, Option, Some, None, is_none}
+use Rattle.std.specs.Prelude.{ℕ, Bool, List, [], ◌∷◌, ◌&&◌, Option, None, is_none, if◌then◌else◌}
 use Rattle.std.specs.Str.{bytes_eq}
+use Rattle.hash_kit.specs.declared.algorithm.HashAlg.{HashAlg}
 use Rattle.hash_kit.specs.declared.algorithm.HashAlg.TheVariants.{Sha256}
-use Rattle.hash_kit.specs.Algorithm.{oid_of}
-use Rattle.der_values.specs.Algorithm.{Name}
+use Rattle.hash_kit.specs.Algorithm.{algorithm_of, oid_of}
+use Rattle.der_values.specs.Algorithm.{Name, are_none_or_null}
 use Rattle.cms_signed.specs.declared.fault.AttrKind.{AttrKind}
 use Rattle.cms_signed.specs.declared.fault.AttrKind.TheVariants.{ContentType, MessageDigest, SigningCertificate}
 
@@ -30,10 +31,9 @@ type_of SigningCertificate = 0x2a ∷ 0x86 ∷ 0x48 ∷ 0x86 ∷ 0xf7 ∷ 0x0d �
 abbrev pub known_kinds : List AttrKind
 known_kinds = ContentType ∷ MessageDigest ∷ SigningCertificate ∷ []
 
--- parameters that are absent, or NULL in its two bytes (RFC 5754, 2)
-abbrev pub are_none_or_null : Option (List ℕ) → Bool
-are_none_or_null None = true
-are_none_or_null (Some params) = bytes_eq params (0x05 ∷ 0x00 ∷ [])
+-- the hash algorithm of a name whose parameters are absent or NULL (RFC 5754, 2)
+abbrev pub known_hash : Name → Option HashAlg
+known_hash name = if are_none_or_null name.params then algorithm_of name.oid else None
 
 -- SHA-256 as a digest algorithm (RFC 5754, 2.2)
 abbrev pub is_sha256 : Name → Bool

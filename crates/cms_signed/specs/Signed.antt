@@ -6,15 +6,15 @@
 --   SignerInfo ::= SEQUENCE { version INTEGER, sid SignerIdentifier, digestAlgorithm AlgorithmIdentifier,
 --     signedAttrs [0] SignedAttributes, signatureAlgorithm AlgorithmIdentifier, signature OCTET STRING,
 --     unsignedAttrs [1] OPTIONAL }
-use Rattle.std.specs.Prelude.{ℕ, List, ◌∷◌, length, drop, Option, Some}
-use Rattle.der_values.specs.Input.{Input, Item}
+use Rattle.std.specs.Prelude.{ℕ, List, ◌∷◌, drop, Option, Some}
+use Rattle.std.specs.Option.{option_map}
 use Rattle.der_values.specs.Value.{value}
 use Rattle.der_values.specs.Shape.{any_tag, tagged, unchecked, checked, checked_whole, Shape, nothing_more, unread, required, optional, repeated}
-use Rattle.der_values.specs.Reading.{Reading, body, read_each, read, first}
+use Rattle.der_values.specs.Reading.{first}
 use Rattle.der_values.specs.Grammar.{Means, from_start}
 use Rattle.der_values.specs.Algorithm.{algorithm_shape, AlgorithmParts}
 use Rattle.cms_signed.specs.declared.fault.CmsFault.{CmsFault}
-use Rattle.cms_signed.specs.declared.fault.CmsFault.TheVariants.{Der}
+use Rattle.cms_signed.specs.declared.token.Signed.{Signed}
 use Rattle.cms_signed.specs.State.{State, start}
 use Rattle.cms_signed.specs.Checks.{CmsCheck, content_is_signed_data, version_is_3, content_is_tst_info, one_signer, version_kept, version_fits, digest_is_sha256, signature_is_hss_lms, cms_checks}
 use Rattle.cms_signed.specs.Attributes.{attributes, AttributesParts, encoded}
@@ -42,6 +42,7 @@ signature_info =
     optional (tagged 0xa1) unchecked unread
     nothing_more)))
 
+-- SignerInfo
 abbrev pub signer_info : Shape CmsCheck
 signer_info =
     required (tagged 0x02) (checked version_kept) unread (
@@ -49,6 +50,7 @@ signer_info =
     required (tagged 0x30) (checked_whole digest_is_sha256) algorithm_shape
     signature_info))
 
+-- its SET, with one signer
 abbrev pub signer_infos : Shape CmsCheck
 signer_infos = required (tagged 0x30) unchecked signer_info nothing_more
 
@@ -60,6 +62,7 @@ end_of_signed_data =
     required (tagged 0x31) (checked one_signer) signer_infos
     nothing_more))
 
+-- SignedData
 abbrev pub signed_data : Shape CmsCheck
 signed_data =
     required (tagged 0x02) (checked version_is_3) unread (
@@ -67,15 +70,18 @@ signed_data =
     required (tagged 0x30) unchecked encap_content_info
     end_of_signed_data))
 
+-- the SignedData under the tag [0]
 abbrev pub signed_data_in_0 : Shape CmsCheck
 signed_data_in_0 = required (tagged 0x30) unchecked signed_data nothing_more
 
+-- ContentInfo
 abbrev pub content_info : Shape CmsCheck
 content_info =
     required (tagged 0x06) (checked content_is_signed_data) unread (
     required (tagged 0xa0) unchecked signed_data_in_0
     nothing_more)
 
+-- all of a token, with nothing behind it
 abbrev pub token : Shape CmsCheck
 token = required (tagged 0x30) unchecked content_info nothing_more
 
@@ -111,53 +117,59 @@ TokenParts = ContentInfoParts × Unit {0}
 abbrev pub kept : List ℕ → Option (List ℕ) → State
 kept message_digest cert_hash = record start { message_digest = Some message_digest; certificate = Some cert_hash }
 
--- the octets of the content, and the state after them
-abbrev pub octets_in_0_named : List ℕ × Unit {0} → State → List ℕ × State
-octets_in_0_named p σ = (p.0, σ)
-
-abbrev pub content_named : ContentParts → State → List ℕ × State
-content_named p σ = (p.1.0.0, σ)
-
+-- the attributes with what was found among them
 pub record NamedAttributes : Type 0 where
   pub encoding : List ℕ
   pub state : State
 
+-- what is named of the attributes
 abbrev pub attributes_named : AttributesParts → State → NamedAttributes
 attributes_named p σ = record { encoding = encoded p; state = σ }
 
+-- that, and the signature
 pub record NamedSignature : Type 0 where
   pub attributes : NamedAttributes
   pub signature : List ℕ
 
+-- what is named from the attributes on
 abbrev pub signature_named : SignatureParts → State → NamedSignature
 signature_named p σ = record { attributes = attributes_named p.0 σ; signature = p.1.1.0 }
 
+-- that, and the signer's identifier
 pub record NamedSigner : Type 0 where
   pub sid : List ℕ
   pub signed : NamedSignature
 
+-- what is named of a signer
 abbrev pub signer_named : SignerParts → State → NamedSigner
 signer_named p σ = record { sid = value p.1.0.0 p.1.0.1; signed = signature_named p.1.1.1 σ }
 
+-- what is named of the SET of signers
 abbrev pub signers_named : SignersParts → State → NamedSigner
 signers_named p σ = signer_named p.0 σ
 
+-- what is named from the certificates on
 abbrev pub end_of_signed_data_named : EndParts → State → NamedSigner
 end_of_signed_data_named p σ = signers_named p.1.1.0 σ
 
+-- that, and the content
 pub record NamedParts : Type 0 where
   pub content : List ℕ
   pub signer : NamedSigner
 
+-- what is named of SignedData
 abbrev pub signed_data_named : SignedDataParts → State → NamedParts
 signed_data_named p σ = record { content = p.1.1.0.1.0.0; signer = end_of_signed_data_named p.1.1.1 σ }
 
+-- what is named under the tag [0]
 abbrev pub explicit_named : SignedDataParts × Unit {0} → State → NamedParts
 explicit_named p σ = signed_data_named p.0 σ
 
+-- what is named of ContentInfo
 abbrev pub content_info_named : ContentInfoParts → State → NamedParts
 content_info_named p σ = explicit_named p.1.0 σ
 
+-- what is named of a token
 abbrev pub token_named : TokenParts → State → NamedParts
 token_named p σ = content_info_named p.0 σ
 
@@ -172,6 +184,11 @@ pub record Parts : Type 0 where
   pub cert_hash : Option (List ℕ)
   pub signature : List ℕ
 
+-- what a Signed says
+abbrev pub signed_seen : Signed → Parts
+signed_seen s = record { content = s.content.now; sid = s.sid.now; attrs = s.attrs.now; message_digest = s.message_digest.now; cert_hash = option_map (λ b. b.now) s.cert_hash; signature = s.signature.now }
+
+-- the parts of a signed time-stamp as a reading names them
 abbrev pub named : Parts → NamedParts
 named s = record {
   content = s.content;
@@ -184,57 +201,13 @@ named s = record {
   };
 }
 
--- ---- the readings, the grammar, the first fault
-
-abbrev pub algorithms_in : State → Item → Reading (List AlgorithmParts × Unit {0}) State CmsFault
-algorithms_in σ v = body cms_checks (tagged 0x31) unchecked (read cms_checks algorithms) σ v
-
-abbrev pub algorithm_in : State → Item → Reading AlgorithmParts State CmsFault
-algorithm_in σ v = body cms_checks (tagged 0x30) unchecked (read cms_checks algorithm_shape) σ v
-
-abbrev pub each_algorithm : Input → Reading (List AlgorithmParts) State CmsFault
-each_algorithm input = read_each Der (tagged 0x30) algorithm_in (length input.left) start input
-
-abbrev pub digest_algorithm_in : State → Item → Reading AlgorithmParts State CmsFault
-digest_algorithm_in σ v = body cms_checks (tagged 0x30) (checked_whole digest_is_sha256) (read cms_checks algorithm_shape) σ v
-
-abbrev pub octets_in_0_in : State → Item → Reading (List ℕ × Unit {0}) State CmsFault
-octets_in_0_in σ v = body cms_checks (tagged 0xa0) unchecked (read cms_checks octets_in_0) σ v
-
-abbrev pub content_in : State → Item → Reading ContentParts State CmsFault
-content_in σ v = body cms_checks (tagged 0x30) unchecked (read cms_checks encap_content_info) σ v
-
-abbrev pub signature_algorithm_in : State → Item → Reading AlgorithmParts State CmsFault
-signature_algorithm_in σ v = body cms_checks (tagged 0x30) (checked_whole signature_is_hss_lms) (read cms_checks algorithm_shape) σ v
-
-abbrev pub signature_in : Input → Reading SignatureParts State CmsFault
-signature_in input = read cms_checks signature_info start input
-
-abbrev pub signer_in : State → Item → Reading SignerParts State CmsFault
-signer_in σ v = body cms_checks (tagged 0x30) unchecked (read cms_checks signer_info) σ v
-
-abbrev pub signers_in : State → Item → Reading SignersParts State CmsFault
-signers_in σ v = body cms_checks (tagged 0x31) (checked one_signer) (read cms_checks signer_infos) σ v
-
-abbrev pub end_of_signed_data_in : Input → Reading EndParts State CmsFault
-end_of_signed_data_in input = read cms_checks end_of_signed_data start input
-
-abbrev pub signed_data_in : State → Item → Reading SignedDataParts State CmsFault
-signed_data_in σ v = body cms_checks (tagged 0x30) unchecked (read cms_checks signed_data) σ v
-
-abbrev pub explicit_in : State → Item → Reading (SignedDataParts × Unit {0}) State CmsFault
-explicit_in σ v = body cms_checks (tagged 0xa0) unchecked (read cms_checks signed_data_in_0) σ v
-
-abbrev pub content_info_in : State → Item → Reading ContentInfoParts State CmsFault
-content_info_in σ v = body cms_checks (tagged 0x30) unchecked (read cms_checks content_info) σ v
-
-abbrev pub token_in : Input → Reading TokenParts State CmsFault
-token_in input = read cms_checks token start input
+-- ---- the grammar, the first fault
 
 -- The bytes are a signed time-stamp with these parts.
 abbrev pub ReadsSigned : List ℕ → Parts → Type 0
 ReadsSigned bytes s = Means cms_checks token start token_named (from_start bytes) (named s)
 
+-- the first fault of the bytes as a signed time-stamp, or none
 abbrev pub first_fault : List ℕ → Option CmsFault
 first_fault bytes = first cms_checks token start (from_start bytes)
 

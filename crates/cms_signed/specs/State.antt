@@ -3,6 +3,7 @@ use Rattle.std.specs.Prelude.{ℕ, Bool, true, false, List, [], Option, None, is
 use Rattle.cms_signed.specs.declared.fault.AttrKind.{AttrKind}
 use Rattle.cms_signed.specs.declared.fault.AttrKind.TheVariants.{ContentType, MessageDigest, SigningCertificate}
 
+-- what was found while a signer is read: its version, the attribute before, the kinds of attribute that have come
 pub record State : Type 0 where
   -- the version of the SignerInfo
   pub version : List ℕ
@@ -19,9 +20,11 @@ pub record State : Type 0 where
   -- of the signing-certificate that has come, the certificate's hash where it is by SHA-256
   pub certificate : Option (Option (List ℕ))
 
+-- nothing was found yet
 abbrev pub start : State
 start = record { version = []; before = []; kind = None; content_type = false; message_digest = None; by_sha256 = true; certificate = None }
 
+-- an attribute of this kind has come
 abbrev pub has_come : State → AttrKind → Bool
 has_come σ ContentType = σ.content_type
 has_come σ MessageDigest = is_some σ.message_digest

@@ -5,6 +5,7 @@ use Rattle.hash_kit.specs.Algorithm.{oid_of}
 use Rattle.hash_kit.specs.Digest.{digest_of}
 use Rattle.der_values.specs.Value.{value, Spells}
 use Rattle.cms_signed.specs.declared.fault.AttrKind.{AttrKind}
+use Rattle.cms_signed.specs.declared.writing.Unsigned.{Unsigned}
 use Rattle.cms_signed.specs.declared.fault.AttrKind.TheVariants.{ContentType, MessageDigest, SigningCertificate}
 use Rattle.cms_signed.specs.Names.{id_signed_data, id_tst_info, id_hss_lms, type_of}
 use Rattle.cms_signed.specs.Signed.{Parts}
@@ -15,6 +16,10 @@ pub record ToSign : Type 0 where
   pub content : List ℕ
   pub sid : List ℕ
   pub cert_hash : List ℕ
+
+-- what an Unsigned holds
+abbrev pub to_sign : Unsigned → ToSign
+to_sign u = record { content = u.content; sid = u.sid; cert_hash = u.cert_hash }
 
 -- an AlgorithmIdentifier without parameters
 abbrev pub algorithm_text : List ℕ → List ℕ
@@ -41,6 +46,7 @@ abbrev pub version_of : List ℕ → List ℕ
 version_of [] = 3 ∷ []
 version_of (tag ∷ rest) = if tag == 0x30 then 1 ∷ [] else 3 ∷ []
 
+-- the contents of SignerInfo
 abbrev pub signer_contents : ToSign → List ℕ → List ℕ
 signer_contents u signature =
     value 0x02 (version_of u.sid)
@@ -50,12 +56,15 @@ signer_contents u signature =
     ++ algorithm_text id_hss_lms
     ++ value 0x04 signature
 
+-- the contents of EncapsulatedContentInfo
 abbrev pub encap_contents : List ℕ → List ℕ
 encap_contents content = value 0x06 id_tst_info ++ value 0xa0 (value 0x04 content)
 
+-- EncapsulatedContentInfo
 abbrev pub content_text : List ℕ → List ℕ
 content_text content = value 0x30 (encap_contents content)
 
+-- the contents of SignedData
 abbrev pub signed_data_contents : ToSign → List ℕ → List ℕ
 signed_data_contents u signature =
     value 0x02 (3 ∷ [])
@@ -63,9 +72,11 @@ signed_data_contents u signature =
     ++ content_text u.content
     ++ value 0x31 (value 0x30 (signer_contents u signature))
 
+-- the contents of ContentInfo
 abbrev pub token_contents : ToSign → List ℕ → List ℕ
 token_contents u signature = value 0x06 id_signed_data ++ value 0xa0 (value 0x30 (signed_data_contents u signature))
 
+-- the bytes of a token
 abbrev pub token_text : ToSign → List ℕ → List ℕ
 token_text u signature = value 0x30 (token_contents u signature)
 

@@ -1,22 +1,21 @@
-ghost use Rattle.std.specs.Prelude.{◌≡◌, ◌<◌, ◌≤◌, ℕ, length, slice_index, IfOk};
-ghost use Rattle.std.specs.Option.{option_map};
+ghost use Rattle.std.specs.Prelude.{◌≡◌, ◌≤◌, length, IfOk};
 ghost use Rattle.der_values.specs.Steps.{Gives};
-ghost use Rattle.der_values.specs.Next.{contents, seen, IsValue};
+ghost use Rattle.der_values.specs.Next.{seen, IsValue};
 ghost use Rattle.der_values.specs.Reading.{read, Finds};
 ghost use Rattle.cms_signed.specs.Names.{type_of};
 ghost use Rattle.cms_signed.specs.State.{start, has_come};
 ghost use Rattle.cms_signed.specs.Checks.{attribute_at, kind_of, first_of_kind, type_at, content_type_at, missing_of, cms_checks};
-ghost use Rattle.cms_signed.specs.Attributes.{attributes, values_in, attribute_in, each_attribute, attributes_in};
+ghost use Rattle.cms_signed.specs.Attributes.{attributes};
 ghost use Rattle.cms_signed.specs.Signed.{attributes_named};
-ghost use Rattle.cms_signed.specs.Inside.{state_of, kept_by, attributes_seen};
+ghost use Rattle.cms_signed.specs.Inside.{state_of, kept_by, attributes_seen, values_in, attribute_in, each_attribute, attributes_in};
 
 use crate::certificate::signing_certificate;
 use crate::fault::{AttrKind, CmsFault};
-use der_values::{Reader, Tlv, read_oid, set_order};
+use der_values::{Reader, Tlv, are_octets, read_oid, set_order};
 use std::cmp::Ordering;
 
 /// id-ct-TSTInfo (RFC 3161, 2.4.2).
-pub const TST_INFO: [u8; 11] = [
+pub(crate) const TST_INFO: [u8; 11] = [
     0x2a, 0x86, 0x48, 0x86, 0xf7, 0x0d, 0x01, 0x09, 0x10, 0x01, 0x04,
 ];
 
@@ -30,7 +29,7 @@ const SIGNING_CERTIFICATE: [u8; 11] = [
 
 /// What was found among the signed attributes so far.
 #[derive(Clone, Copy, Debug)]
-pub struct Attributes<'a> {
+pub(crate) struct Attributes<'a> {
     /// All bytes of the attribute before.
     pub before: &'a [u8],
     /// The kind of the attribute that is being read, where it is a known one.
@@ -45,14 +44,14 @@ pub struct Attributes<'a> {
 
 /// The signed attributes: all their bytes, and what stands in them.
 #[derive(Clone, Copy, Debug)]
-pub struct SignedAttributes<'a> {
+pub(crate) struct SignedAttributes<'a> {
     pub whole: &'a [u8],
     pub message_digest: &'a [u8],
     pub cert_hash: Option<&'a [u8]>,
 }
 
 /// The object identifier of a kind of attribute.
-pub fn type_of(kind: AttrKind) -> &'static [u8]
+pub(crate) fn type_of(kind: AttrKind) -> &'static [u8]
     ensures octets { result.now ≡ type_of kind }
     ensures size { length result.now ≤ 11 }
 {
@@ -234,13 +233,8 @@ fn attributes_left<'a>(
     complete(whole, &found)
 }
 
-// That bytes are below 256 is known of a slice that is passed, and not of one in a struct.
-fn are_octets(bytes: &[u8])
-    ensures { (i : ℕ) → slice_index bytes.now i < 256 }
-{}
-
 /// The signed attributes (RFC 5652, 5.3).
-pub fn signed_attributes<'a>(t: &Tlv<'a>) -> Result<SignedAttributes<'a>, CmsFault>
+pub(crate) fn signed_attributes<'a>(t: &Tlv<'a>) -> Result<SignedAttributes<'a>, CmsFault>
     requires value { IsValue t.now }
     requires tag { t.now.tag ≡ 0xa0 }
     ensures { Finds attributes_named attributes_seen result (attributes_in start (seen t.now)) }

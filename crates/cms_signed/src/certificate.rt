@@ -1,9 +1,8 @@
-ghost use Rattle.std.specs.Prelude.{◌≡◌, IfSome};
+ghost use Rattle.std.specs.Prelude.{IfSome};
 ghost use Rattle.std.specs.Option.{option_map};
-ghost use Rattle.der_values.specs.Next.{contents, seen, IsValue};
+ghost use Rattle.der_values.specs.Next.{seen, IsValue};
 ghost use Rattle.der_values.specs.Reading.{Finds};
-ghost use Rattle.cms_signed.specs.Attributes.{hash_algorithm_in, certificate_id_in, certificate_ids_in, signing_certificate_in};
-ghost use Rattle.cms_signed.specs.Inside.{state_of};
+ghost use Rattle.cms_signed.specs.Inside.{state_of, hash_algorithm_in, certificate_id_in, certificate_ids_in, signing_certificate_in};
 
 use crate::algorithms::is_sha256;
 use crate::attributes::Attributes;
@@ -55,7 +54,7 @@ fn certificate_ids<'a>(found: Attributes<'a>, t: &Tlv<'a>) -> Result<Attributes<
 
 /// SigningCertificateV2 (RFC 5035, 3).
 #[tactic(auto, unfolding(der_values::specs::Reading::read))]
-pub fn signing_certificate<'a>(
+pub(crate) fn signing_certificate<'a>(
     found: Attributes<'a>,
     t: &Tlv<'a>,
 ) -> Result<Attributes<'a>, CmsFault>

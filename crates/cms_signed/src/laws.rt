@@ -1,8 +1,9 @@
 //! Laws of the definitions that the crate's contracts cite. Each function has an empty body: its clause is the law.
 
-ghost use Rattle.std.specs.Prelude.{◌≡◌, ◌+◌, ◌^◌, ◌<◌, ◌≤◌, ℕ, List, length};
+ghost use Rattle.std.specs.Prelude.{◌≡◌, ◌+◌, ◌^◌, ◌<◌, ◌≤◌, ℕ, List, length, slice_index, None};
 ghost use Rattle.der_values.specs.Value.{value};
-ghost use Rattle.cms_signed.specs.Signed.{Parts, ReadsSigned, as_set};
+ghost use Rattle.cms_signed.specs.AttributeList.{Attribute, HasAttributes};
+ghost use Rattle.cms_signed.specs.Signed.{Parts, ReadsSigned, first_fault, as_set};
 ghost use Rattle.cms_signed.specs.Text.{ToSign, token_text, written, IsSid, HasText};
 
 /// No bytes spell two signed time-stamps.
@@ -26,4 +27,15 @@ pub fn what_is_signed_is_a_set()
 pub fn short_parts_have_a_text()
     ensures { (u : ToSign) (signature : List ℕ) → IsSid u.sid → 24 ≤ length u.cert_hash → length u.cert_hash ≤ 64
         → length u.content + length u.sid + length signature + 512 < 2 ^ 32 → HasText u signature }
+{}
+
+/// What is handed out is what the signed attributes say: `attrs` spells a list of attributes, among them one
+/// message-digest with this digest alone, and one signing-certificate that names the certificate of this hash.
+pub fn the_digest_and_the_hash_are_those_of_the_attributes()
+    ensures { (bytes : List ℕ) (s : Parts) → ReadsSigned bytes s → (list : List Attribute) × HasAttributes s list }
+{}
+
+/// Every string of bytes is a signed time-stamp or has a first fault.
+pub fn bytes_without_a_first_fault_are_a_signed_time_stamp()
+    ensures { (bytes : List ℕ) → ((i : ℕ) → slice_index bytes i < 256) → first_fault bytes ≡ None → (s : Parts) × ReadsSigned bytes s }
 {}

@@ -1,61 +1,56 @@
 //! Tokens that are put together of pieces.
 
-ghost use Rattle.std.specs.Prelude.{◌≢◌, ◌%◌};
-
 use der_values::write_tlv;
 use std::alloc::{AllocError, Global};
 
 /// The attribute content-type.
-pub const CONTENT_TYPE: [u8; 28] = [
-    0x30, 0x1a, 0x06, 0x09, 0x2a, 0x86, 0x48, 0x86, 0xf7, 0x0d, 0x01, 0x09, 0x03, 0x31, 0x0d, 0x06,
-    0x0b, 0x2a, 0x86, 0x48, 0x86, 0xf7, 0x0d, 0x01, 0x09, 0x10, 0x01, 0x04,
-];
+pub(crate) const CONTENT_TYPE: &[u8] = b"\
+    \x30\x1a\x06\x09\x2a\x86\x48\x86\xf7\x0d\x01\x09\x03\x31\x0d\x06\x0b\x2a\x86\x48\x86\xf7\x0d\x01\
+    \x09\x10\x01\x04";
 
-/// The attribute message-digest of `abc`, with its SHA-256 as NIST publishes it.
-pub const MESSAGE_DIGEST: [u8; 49] = [
-    0x30, 0x2f, 0x06, 0x09, 0x2a, 0x86, 0x48, 0x86, 0xf7, 0x0d, 0x01, 0x09, 0x04, 0x31, 0x22, 0x04,
-    0x20, 0xba, 0x78, 0x16, 0xbf, 0x8f, 0x01, 0xcf, 0xea, 0x41, 0x41, 0x40, 0xde, 0x5d, 0xae, 0x22,
-    0x23, 0xb0, 0x03, 0x61, 0xa3, 0x96, 0x17, 0x7a, 0x9c, 0xb4, 0x10, 0xff, 0x61, 0xf2, 0x00, 0x15,
-    0xad,
-];
+/// The attribute message-digest of `abc`.
+pub(crate) const MESSAGE_DIGEST: &[u8] = b"\
+    \x30\x2f\x06\x09\x2a\x86\x48\x86\xf7\x0d\x01\x09\x04\x31\x22\x04\x20\xba\x78\x16\xbf\x8f\x01\xcf\
+    \xea\x41\x41\x40\xde\x5d\xae\x22\x23\xb0\x03\x61\xa3\x96\x17\x7a\x9c\xb4\x10\xff\x61\xf2\x00\x15\
+    \xad";
 
-/// The attribute signing-certificate, with 40 41 42 .. as the certificate's hash.
-pub const CERTIFICATE: [u8; 57] = [
-    0x30, 0x37, 0x06, 0x0b, 0x2a, 0x86, 0x48, 0x86, 0xf7, 0x0d, 0x01, 0x09, 0x10, 0x02, 0x2f, 0x31,
-    0x28, 0x30, 0x26, 0x30, 0x24, 0x30, 0x22, 0x04, 0x20, 0x40, 0x41, 0x42, 0x43, 0x44, 0x45, 0x46,
-    0x47, 0x48, 0x49, 0x4a, 0x4b, 0x4c, 0x4d, 0x4e, 0x4f, 0x50, 0x51, 0x52, 0x53, 0x54, 0x55, 0x56,
-    0x57, 0x58, 0x59, 0x5a, 0x5b, 0x5c, 0x5d, 0x5e, 0x5f,
-];
+/// The SHA-256 of `abc`, as NIST publishes it.
+pub(crate) const DIGEST_OF_ABC: &[u8] = b"\
+    \xba\x78\x16\xbf\x8f\x01\xcf\xea\x41\x41\x40\xde\x5d\xae\x22\x23\xb0\x03\x61\xa3\x96\x17\x7a\x9c\
+    \xb4\x10\xff\x61\xf2\x00\x15\xad";
 
-const SHA256: [u8; 13] = [
-    0x30, 0x0b, 0x06, 0x09, 0x60, 0x86, 0x48, 0x01, 0x65, 0x03, 0x04, 0x02, 0x01,
-];
+/// The attribute signing-certificate.
+pub(crate) const CERTIFICATE: &[u8] = b"\
+    \x30\x37\x06\x0b\x2a\x86\x48\x86\xf7\x0d\x01\x09\x10\x02\x2f\x31\x28\x30\x26\x30\x24\x30\x22\x04\
+    \x20\x40\x41\x42\x43\x44\x45\x46\x47\x48\x49\x4a\x4b\x4c\x4d\x4e\x4f\x50\x51\x52\x53\x54\x55\x56\
+    \x57\x58\x59\x5a\x5b\x5c\x5d\x5e\x5f";
 
-const ALGORITHMS: [u8; 15] = [
-    0x31, 0x0d, 0x30, 0x0b, 0x06, 0x09, 0x60, 0x86, 0x48, 0x01, 0x65, 0x03, 0x04, 0x02, 0x01,
-];
+/// The certificate's hash, 40 41 42 ..
+pub(crate) const CERTIFICATE_HASH: &[u8] = b"\
+    \x40\x41\x42\x43\x44\x45\x46\x47\x48\x49\x4a\x4b\x4c\x4d\x4e\x4f\x50\x51\x52\x53\x54\x55\x56\x57\
+    \x58\x59\x5a\x5b\x5c\x5d\x5e\x5f";
 
-const HSS_LMS: [u8; 15] = [
-    0x30, 0x0d, 0x06, 0x0b, 0x2a, 0x86, 0x48, 0x86, 0xf7, 0x0d, 0x01, 0x09, 0x10, 0x03, 0x11,
-];
+const SHA256: &[u8] = b"\
+    \x30\x0b\x06\x09\x60\x86\x48\x01\x65\x03\x04\x02\x01";
 
-const TYPE: [u8; 11] = [
-    0x06, 0x09, 0x2a, 0x86, 0x48, 0x86, 0xf7, 0x0d, 0x01, 0x07, 0x02,
-];
+const ALGORITHMS: &[u8] = b"\
+    \x31\x0d\x30\x0b\x06\x09\x60\x86\x48\x01\x65\x03\x04\x02\x01";
 
-const CONTENT: [u8; 22] = [
-    0x30, 0x14, 0x06, 0x0b, 0x2a, 0x86, 0x48, 0x86, 0xf7, 0x0d, 0x01, 0x09, 0x10, 0x01, 0x04, 0xa0,
-    0x05, 0x04, 0x03, 0x61, 0x62, 0x63,
-];
+const HSS_LMS: &[u8] = b"\
+    \x30\x0d\x06\x0b\x2a\x86\x48\x86\xf7\x0d\x01\x09\x10\x03\x11";
 
-const SID: [u8; 22] = [
-    0x80, 0x14, 0x00, 0x01, 0x02, 0x03, 0x04, 0x05, 0x06, 0x07, 0x08, 0x09, 0x0a, 0x0b, 0x0c, 0x0d,
-    0x0e, 0x0f, 0x10, 0x11, 0x12, 0x13,
-];
+const TYPE: &[u8] = b"\
+    \x06\x09\x2a\x86\x48\x86\xf7\x0d\x01\x07\x02";
+
+const CONTENT: &[u8] = b"\
+    \x30\x14\x06\x0b\x2a\x86\x48\x86\xf7\x0d\x01\x09\x10\x01\x04\xa0\x05\x04\x03\x61\x62\x63";
+
+const SID: &[u8] = b"\
+    \x80\x14\x00\x01\x02\x03\x04\x05\x06\x07\x08\x09\x0a\x0b\x0c\x0d\x0e\x0f\x10\x11\x12\x13";
 
 /// A piece of a token.
 #[derive(Clone, Copy, PartialEq)]
-pub enum Piece {
+pub(crate) enum Piece {
     Type,
     Version,
     Algorithms,
@@ -86,13 +81,13 @@ pub enum Piece {
 
 /// Two pieces that are other than usual.
 #[derive(Clone, Copy)]
-pub struct Edit {
+pub(crate) struct Edit {
     pub first: (Piece, &'static [u8]),
     pub second: (Piece, &'static [u8]),
 }
 
 /// No piece is other than usual.
-pub const USUAL: Edit = Edit {
+pub(crate) const USUAL: Edit = Edit {
     first: (Piece::More, &[]),
     second: (Piece::More, &[]),
 };
@@ -109,72 +104,108 @@ impl Edit {
     }
 }
 
-fn write(out: &mut Vec<u8>, tag: u8, content: &[u8]) -> Result<(), AllocError>
-    requires { tag % 32 ≢ 31 }
-{
-    if content.len() < 65_536 {
+// A value of a token: the pieces before it and behind it, with their usual bytes, and its tag.
+struct Layer {
+    before: &'static [(Piece, &'static [u8])],
+    tag: u8,
+    behind: &'static [(Piece, &'static [u8])],
+}
+
+const ATTRIBUTES: &[(Piece, &[u8])] = &[
+    (Piece::First, b""),
+    (Piece::ContentType, CONTENT_TYPE),
+    (Piece::Second, b""),
+    (Piece::MessageDigest, MESSAGE_DIGEST),
+    (Piece::Third, b""),
+    (Piece::Certificate, CERTIFICATE),
+    (Piece::Last, b""),
+];
+
+// From the attributes of the signer outwards.
+const LAYERS: &[Layer] = &[
+    Layer {
+        before: &[
+            (Piece::SignerVersion, b"\x02\x01\x03"),
+            (Piece::Sid, SID),
+            (Piece::Digest, SHA256),
+        ],
+        tag: 0xa0,
+        behind: &[
+            (Piece::Algorithm, HSS_LMS),
+            (Piece::Signature, b"\x04\x05\x01\x02\x03\x04\x05"),
+            (Piece::Unsigned, b""),
+        ],
+    },
+    Layer {
+        before: &[],
+        tag: 0x30,
+        behind: &[(Piece::MoreSigners, b"")],
+    },
+    Layer {
+        before: &[
+            (Piece::Version, b"\x02\x01\x03"),
+            (Piece::Algorithms, ALGORITHMS),
+            (Piece::Content, CONTENT),
+            (Piece::Certificates, b""),
+        ],
+        tag: 0x31,
+        behind: &[(Piece::MoreData, b"")],
+    },
+    Layer {
+        before: &[],
+        tag: 0x30,
+        behind: &[(Piece::MoreExplicit, b"")],
+    },
+    Layer {
+        before: &[(Piece::Type, TYPE)],
+        tag: 0xa0,
+        behind: &[(Piece::MoreInfo, b"")],
+    },
+    Layer {
+        before: &[],
+        tag: 0x30,
+        behind: &[(Piece::More, b"")],
+    },
+];
+
+fn write_pieces(
+    out: &mut Vec<u8>,
+    edit: &Edit,
+    pieces: &[(Piece, &'static [u8])],
+) -> Result<(), AllocError> {
+    for &(piece, usual) in pieces {
+        out.extend_from_slice(edit.piece(piece, usual))?;
+    }
+    Ok(())
+}
+
+// The test fails where a value is left out, since its token is another.
+fn write(out: &mut Vec<u8>, tag: u8, content: &[u8]) -> Result<(), AllocError> {
+    if tag % 32 != 31 && content.len() < 65_536 {
         write_tlv(out, tag, content)?;
     }
     Ok(())
 }
 
-fn attributes(alloc: Global, edit: &Edit) -> Result<Vec<u8>, AllocError> {
+fn around(
+    alloc: Global,
+    edit: &Edit,
+    layer: &Layer,
+    content: &[u8],
+) -> Result<Vec<u8>, AllocError> {
     let mut out = Vec::new(alloc);
-    out.extend_from_slice(edit.piece(Piece::First, &[]))?;
-    out.extend_from_slice(edit.piece(Piece::ContentType, &CONTENT_TYPE))?;
-    out.extend_from_slice(edit.piece(Piece::Second, &[]))?;
-    out.extend_from_slice(edit.piece(Piece::MessageDigest, &MESSAGE_DIGEST))?;
-    out.extend_from_slice(edit.piece(Piece::Third, &[]))?;
-    out.extend_from_slice(edit.piece(Piece::Certificate, &CERTIFICATE))?;
-    out.extend_from_slice(edit.piece(Piece::Last, &[]))?;
-    Ok(out)
-}
-
-fn signer(alloc: Global, edit: &Edit) -> Result<Vec<u8>, AllocError> {
-    let attributes = attributes(alloc, edit)?;
-    let mut out = Vec::new(alloc);
-    out.extend_from_slice(edit.piece(Piece::SignerVersion, &[2, 1, 3]))?;
-    out.extend_from_slice(edit.piece(Piece::Sid, &SID))?;
-    out.extend_from_slice(edit.piece(Piece::Digest, &SHA256))?;
-    write(&mut out, 0xa0, attributes.as_slice())?;
-    out.extend_from_slice(edit.piece(Piece::Algorithm, &HSS_LMS))?;
-    out.extend_from_slice(edit.piece(Piece::Signature, &[4, 5, 1, 2, 3, 4, 5]))?;
-    out.extend_from_slice(edit.piece(Piece::Unsigned, &[]))?;
-    Ok(out)
-}
-
-fn signers(alloc: Global, edit: &Edit) -> Result<Vec<u8>, AllocError> {
-    let signer = signer(alloc, edit)?;
-    let mut out = Vec::new(alloc);
-    write(&mut out, 0x30, signer.as_slice())?;
-    out.extend_from_slice(edit.piece(Piece::MoreSigners, &[]))?;
-    Ok(out)
-}
-
-fn signed_data(alloc: Global, edit: &Edit) -> Result<Vec<u8>, AllocError> {
-    let signers = signers(alloc, edit)?;
-    let mut out = Vec::new(alloc);
-    out.extend_from_slice(edit.piece(Piece::Version, &[2, 1, 3]))?;
-    out.extend_from_slice(edit.piece(Piece::Algorithms, &ALGORITHMS))?;
-    out.extend_from_slice(edit.piece(Piece::Content, &CONTENT))?;
-    out.extend_from_slice(edit.piece(Piece::Certificates, &[]))?;
-    write(&mut out, 0x31, signers.as_slice())?;
-    out.extend_from_slice(edit.piece(Piece::MoreData, &[]))?;
+    write_pieces(&mut out, edit, layer.before)?;
+    write(&mut out, layer.tag, content)?;
+    write_pieces(&mut out, edit, layer.behind)?;
     Ok(out)
 }
 
 /// The token with these pieces.
-pub fn token_of(alloc: Global, edit: &Edit) -> Result<Vec<u8>, AllocError> {
-    let data = signed_data(alloc, edit)?;
-    let mut explicit = Vec::new(alloc);
-    write(&mut explicit, 0x30, data.as_slice())?;
-    explicit.extend_from_slice(edit.piece(Piece::MoreExplicit, &[]))?;
-    let mut info = Vec::new(alloc);
-    info.extend_from_slice(edit.piece(Piece::Type, &TYPE))?;
-    write(&mut info, 0xa0, explicit.as_slice())?;
-    info.extend_from_slice(edit.piece(Piece::MoreInfo, &[]))?;
+pub(crate) fn token_of(alloc: Global, edit: &Edit) -> Result<Vec<u8>, AllocError> {
     let mut token = Vec::new(alloc);
-    write(&mut token, 0x30, info.as_slice())?;
-    token.extend_from_slice(edit.piece(Piece::More, &[]))?;
+    write_pieces(&mut token, edit, ATTRIBUTES)?;
+    for layer in LAYERS {
+        token = around(alloc, edit, layer, &token)?;
+    }
     Ok(token)
 }

@@ -1,11 +1,11 @@
 ghost use Rattle.std.specs.Prelude.{◌≡◌, ◌^◌, ◌<◌, length, IfOk};
 ghost use Rattle.der_values.specs.Steps.{Gives};
-ghost use Rattle.der_values.specs.Next.{contents, seen, IsValue};
+ghost use Rattle.der_values.specs.Next.{seen, IsValue};
 ghost use Rattle.der_values.specs.Reading.{Finds};
 ghost use Rattle.cms_signed.specs.State.{start};
-ghost use Rattle.cms_signed.specs.Checks.{each_value, one_signer_at, fits, sid_at};
-ghost use Rattle.cms_signed.specs.Signed.{signature_algorithm_in, signature_named, signature_in, signer_named, signer_in, signers_in, signers_named, end_of_signed_data_named, end_of_signed_data_in};
-ghost use Rattle.cms_signed.specs.Inside.{kept_by, signature_seen, signer_seen};
+ghost use Rattle.cms_signed.specs.Checks.{one_signer_at, fits, sid_at};
+ghost use Rattle.cms_signed.specs.Signed.{signature_named, signer_named, signers_named, end_of_signed_data_named};
+ghost use Rattle.cms_signed.specs.Inside.{kept_by, signature_seen, signer_seen, each_value, signature_algorithm_in, signature_in, signer_in, signers_in, end_of_signed_data_in};
 
 use crate::algorithms::{digest_algorithm, is_hss_lms};
 use crate::attributes::{SignedAttributes, signed_attributes};
@@ -13,21 +13,21 @@ use crate::fault::CmsFault;
 use der_values::{DerFault, Reader, Tlv, read_algorithm, read_integer};
 
 /// The version of a signer that is identified by issuer and serial number (RFC 5652, 5.3).
-pub const VERSION_1: [u8; 1] = [1];
+pub(crate) const VERSION_1: [u8; 1] = [1];
 
 /// The version of a signer that is identified by its key, and of a SignedData with such a signer or such a content.
-pub const VERSION_3: [u8; 1] = [3];
+pub(crate) const VERSION_3: [u8; 1] = [3];
 
 /// A signature, with the attributes that it signs.
 #[derive(Clone, Copy, Debug)]
-pub struct Signature<'a> {
+pub(crate) struct Signature<'a> {
     pub attributes: SignedAttributes<'a>,
     pub octets: &'a [u8],
 }
 
-/// A signer: all bytes of its identifier, and its signature.
+/// A SignerInfo (RFC 5652, 5.3): all bytes of the signer's identifier, and its signature.
 #[derive(Clone, Copy, Debug)]
-pub struct Signer<'a> {
+pub(crate) struct SignerInfo<'a> {
     pub sid: &'a [u8],
     pub signature: Signature<'a>,
 }
@@ -111,7 +111,7 @@ fn signature_info<'a>(mut reader: Reader<'a>) -> Result<Signature<'a>, CmsFault>
 
 // SignerInfo (RFC 5652, 5.3).
 #[tactic(auto, unfolding(der_values::specs::Reading::read, crate::specs::Checks::signer_version_at))]
-fn signer_info<'a>(t: &Tlv<'a>) -> Result<Signer<'a>, CmsFault>
+fn signer_info<'a>(t: &Tlv<'a>) -> Result<SignerInfo<'a>, CmsFault>
     requires { IsValue t.now }
     ensures { Finds signer_named signer_seen result (signer_in start (seen t.now)) }
 {
@@ -120,7 +120,7 @@ fn signer_info<'a>(t: &Tlv<'a>) -> Result<Signer<'a>, CmsFault>
     let sid = reader.next()?;
     check_version(version, &sid)?;
     digest_algorithm(&reader.expect(0x30)?)?;
-    Ok(Signer {
+    Ok(SignerInfo {
         sid: sid.whole,
         signature: signature_info(reader)?,
     })
@@ -128,7 +128,7 @@ fn signer_info<'a>(t: &Tlv<'a>) -> Result<Signer<'a>, CmsFault>
 
 // The one signer.
 #[tactic(auto, unfolding(der_values::specs::Reading::read))]
-fn signer_infos<'a>(t: &Tlv<'a>) -> Result<Signer<'a>, CmsFault>
+fn signer_infos<'a>(t: &Tlv<'a>) -> Result<SignerInfo<'a>, CmsFault>
     requires { IsValue t.now }
     ensures { Finds signers_named signer_seen result (signers_in start (seen t.now)) }
 {
@@ -141,7 +141,7 @@ fn signer_infos<'a>(t: &Tlv<'a>) -> Result<Signer<'a>, CmsFault>
 
 /// The one signer, behind certificates and revocation lists, which are not looked into.
 #[tactic(auto, using(der_values::proofs::Passed::optional_passed), unfolding(der_values::specs::Reading::read))]
-pub fn end_of_signed_data<'a>(mut reader: Reader<'a>) -> Result<Signer<'a>, CmsFault>
+pub(crate) fn end_of_signed_data<'a>(mut reader: Reader<'a>) -> Result<SignerInfo<'a>, CmsFault>
     ensures { Finds end_of_signed_data_named signer_seen result (end_of_signed_data_in reader.entry) }
 {
     reader.optional(0xa0)?;

@@ -1,12 +1,12 @@
-ghost use Rattle.std.specs.Prelude.{◌≡◌, List, Some, IfOk, IfErr, IsOkAnd, OnOk};
+ghost use Rattle.std.specs.Prelude.{◌≡◌, Some, IfOk, IfErr, IsOkAnd};
 ghost use Rattle.der_values.specs.Steps.{Gives};
-ghost use Rattle.der_values.specs.Next.{contents, seen, IsValue};
+ghost use Rattle.der_values.specs.Next.{seen, IsValue};
 ghost use Rattle.der_values.specs.Reading.{Finds};
 ghost use Rattle.der_values.specs.Grammar.{from_start};
 ghost use Rattle.cms_signed.specs.State.{start};
 ghost use Rattle.cms_signed.specs.Checks.{signed_data_at, version_at, tst_info_at};
-ghost use Rattle.cms_signed.specs.Signed.{Parts, octets_in_0_named, octets_in_0_in, content_named, content_in, signed_data_named, signed_data_in, explicit_named, explicit_in, content_info_named, content_info_in, token_named, token_in, ReadsSigned, first_fault, as_set};
-ghost use Rattle.cms_signed.specs.Inside.{content_seen, named_seen, signed_seen};
+ghost use Rattle.cms_signed.specs.Signed.{Parts, signed_data_named, explicit_named, content_info_named, token_named, ReadsSigned, first_fault, as_set, signed_seen};
+ghost use Rattle.cms_signed.specs.Inside.{content_seen, named_seen, octets_in_0_named, octets_in_0_in, content_named, content_in, signed_data_in, explicit_in, content_info_in, token_in};
 
 use crate::algorithms::digest_algorithms;
 use crate::attributes::TST_INFO;
@@ -16,7 +16,7 @@ use der_values::{Reader, Tlv, read_integer, read_oid};
 use std::alloc::{AllocError, Global};
 
 /// id-signedData (RFC 5652, 5.1).
-pub const SIGNED_DATA: [u8; 9] = [0x2a, 0x86, 0x48, 0x86, 0xf7, 0x0d, 0x01, 0x07, 0x02];
+pub(crate) const SIGNED_DATA: [u8; 9] = [0x2a, 0x86, 0x48, 0x86, 0xf7, 0x0d, 0x01, 0x07, 0x02];
 
 /// A signed time-stamp. Each part is a range of the token's bytes.
 #[derive(Clone, Copy, Debug)]

@@ -1,18 +1,17 @@
-ghost use Rattle.std.specs.Prelude.{◌≡◌, ◌≢◌, ◌+◌, ◌%◌, ◌^◌, ◌<◌, ◌≤◌, ◌++◌, ℕ, List, length, vec_len, IfOk, OnOk};
+ghost use Rattle.std.specs.Prelude.{◌≡◌, ◌+◌, ◌^◌, ◌<◌, ◌≤◌, ◌++◌, ℕ, List, length, vec_len, IfOk, OnOk};
 ghost use Rattle.hash_kit.specs.declared.algorithm.HashAlg.TheVariants.{Sha256};
-ghost use Rattle.hash_kit.specs.Digest.{digest_of};
 ghost use Rattle.der_values.specs.Value.{value};
 ghost use Rattle.cms_signed.specs.Names.{type_of};
 ghost use Rattle.cms_signed.specs.Signed.{ReadsSigned, as_set};
-ghost use Rattle.cms_signed.specs.Text.{algorithm_text, attribute_text, certificate_text, attributes_text, version_of, signer_contents, encap_contents, content_text, signed_data_contents, token_contents, token_text, written, HasText};
-ghost use Rattle.cms_signed.specs.Inside.{to_sign, HasRoom};
+ghost use Rattle.cms_signed.specs.Text.{algorithm_text, attribute_text, certificate_text, attributes_text, version_of, signer_contents, encap_contents, content_text, signed_data_contents, token_text, written, HasText, to_sign};
+ghost use Rattle.cms_signed.specs.Inside.{HasRoom};
 
 use crate::algorithms::HSS_LMS;
 use crate::attributes::{TST_INFO, type_of};
 use crate::fault::AttrKind;
 use crate::signers::{VERSION_1, VERSION_3};
 use crate::token::SIGNED_DATA;
-use der_values::{Bytes, write_tlv};
+use der_values::{AlgName, Bytes, tlv_bytes, write_algorithm, write_tlv};
 use hash_kit::{HashAlg, HashValue, digest};
 use std::alloc::{AllocError, Global};
 
@@ -25,26 +24,13 @@ pub struct Unsigned {
     pub cert_hash: HashValue,
 }
 
-// One value.
-fn tlv(alloc: Global, tag: u8, content: &[u8]) -> Result<Vec<u8>, AllocError>
-    requires low_tag { tag % 32 ≢ 31 }
-    requires short { length content.now < 2 ^ 32 }
-    ensures ok { IfOk result (λ text. text.items ≡ value tag content.now) }
-    ensures len { IfOk result (λ text. vec_len text ≤ length content.now + 6) }
-{
-    let mut text = Vec::new(alloc);
-    write_tlv(&mut text, tag, content)?;
-    Ok(text)
-}
-
 // Adds an AlgorithmIdentifier without parameters.
-fn write_algorithm(out: &mut Vec<u8>, oid: &[u8]) -> Result<(), AllocError>
+fn write_without_parameters(out: &mut Vec<u8>, oid: &[u8]) -> Result<(), AllocError>
     requires { length oid.now ≤ 64 }
     ensures ok { OnOk result (out.new.items ≡ out.old.items ++ algorithm_text oid.now) }
     ensures len { OnOk result (vec_len out.new ≤ vec_len out.old + length oid.now + 12) }
 {
-    let name = tlv(*out.allocator(), 0x06, oid)?;
-    write_tlv(out, 0x30, name.as_slice())
+    write_algorithm(out, 0x30, &AlgName { oid, params: None })
 }
 
 // Adds an attribute with this one value.
@@ -66,10 +52,10 @@ fn certificate(alloc: Global, hash: &[u8]) -> Result<Vec<u8>, AllocError>
     ensures ok { IfOk result (λ text. text.items ≡ certificate_text hash.now) }
     ensures len { IfOk result (λ text. vec_len text ≤ length hash.now + 24) }
 {
-    let hash = tlv(alloc, 0x04, hash)?;
-    let id = tlv(alloc, 0x30, hash.as_slice())?;
-    let ids = tlv(alloc, 0x30, id.as_slice())?;
-    tlv(alloc, 0x30, ids.as_slice())
+    let hash = tlv_bytes(alloc, 0x04, hash)?;
+    let id = tlv_bytes(alloc, 0x30, hash.as_slice())?;
+    let ids = tlv_bytes(alloc, 0x30, id.as_slice())?;
+    tlv_bytes(alloc, 0x30, ids.as_slice())
 }
 
 // The signed attributes, one behind the other.
@@ -78,9 +64,9 @@ fn attributes(alloc: Global, parts: &Unsigned) -> Result<Vec<u8>, AllocError>
     ensures ok { IfOk result (λ text. text.items ≡ attributes_text (to_sign parts.now)) }
     ensures len { IfOk result (λ text. vec_len text ≤ 512) }
 {
-    let content_type = tlv(alloc, 0x06, &TST_INFO)?;
+    let content_type = tlv_bytes(alloc, 0x06, &TST_INFO)?;
     let digest = digest(HashAlg::Sha256, parts.content.as_slice());
-    let message_digest = tlv(alloc, 0x04, digest.bytes())?;
+    let message_digest = tlv_bytes(alloc, 0x04, digest.bytes())?;
     let certificate = certificate(alloc, parts.cert_hash.bytes())?;
     let mut text = Vec::new(alloc);
     write_attribute(&mut text, AttrKind::ContentType, content_type.as_slice())?;
@@ -101,7 +87,7 @@ fn set_of_attributes(alloc: Global, parts: &Unsigned) -> Result<Vec<u8>, AllocEr
     ensures { IfOk result (λ bytes. bytes.items ≡ value 0x31 (attributes_text (to_sign parts.now))) }
 {
     let attributes = attributes(alloc, parts)?;
-    tlv(alloc, 0x31, attributes.as_slice())
+    tlv_bytes(alloc, 0x31, attributes.as_slice())
 }
 
 /// The bytes that are to be signed: the attributes content-type, message-digest and signing-certificate, with the
@@ -137,11 +123,11 @@ fn signer(alloc: Global, parts: &Unsigned, signature: &[u8]) -> Result<Vec<u8>, 
     let mut content = Vec::new(alloc);
     write_tlv(&mut content, 0x02, version_of(parts.sid.as_slice()))?;
     content.extend_from_slice(parts.sid.as_slice())?;
-    write_algorithm(&mut content, HashAlg::Sha256.oid())?;
+    write_without_parameters(&mut content, HashAlg::Sha256.oid())?;
     write_tlv(&mut content, 0xa0, attributes.as_slice())?;
-    write_algorithm(&mut content, &HSS_LMS)?;
+    write_without_parameters(&mut content, &HSS_LMS)?;
     write_tlv(&mut content, 0x04, signature)?;
-    tlv(alloc, 0x30, content.as_slice())
+    tlv_bytes(alloc, 0x30, content.as_slice())
 }
 
 // Adds the EncapsulatedContentInfo (RFC 5652, 5.2).
@@ -152,7 +138,7 @@ fn write_content(out: &mut Vec<u8>, octets: &[u8]) -> Result<(), AllocError>
     ensures { OnOk result (out.new.items ≡ out.old.items ++ content_text octets.now) }
 {
     let alloc = *out.allocator();
-    let octets = tlv(alloc, 0x04, octets)?;
+    let octets = tlv_bytes(alloc, 0x04, octets)?;
     let mut content = Vec::new(alloc);
     write_tlv(&mut content, 0x06, &TST_INFO)?;
     write_tlv(&mut content, 0xa0, octets.as_slice())?;
@@ -166,14 +152,14 @@ fn signed_data(alloc: Global, parts: &Unsigned, signature: &[u8]) -> Result<Vec<
     ensures { IfOk result (λ text. text.items ≡ value 0x30 (signed_data_contents (to_sign parts.now) signature.now)) }
 {
     let mut digest = Vec::new(alloc);
-    write_algorithm(&mut digest, HashAlg::Sha256.oid())?;
+    write_without_parameters(&mut digest, HashAlg::Sha256.oid())?;
     let signer = signer(alloc, parts, signature)?;
     let mut content = Vec::new(alloc);
     write_tlv(&mut content, 0x02, &VERSION_3)?;
     write_tlv(&mut content, 0x31, digest.as_slice())?;
     write_content(&mut content, parts.content.as_slice())?;
     write_tlv(&mut content, 0x31, signer.as_slice())?;
-    tlv(alloc, 0x30, content.as_slice())
+    tlv_bytes(alloc, 0x30, content.as_slice())
 }
 
 // ContentInfo (RFC 5652, 3).
@@ -185,7 +171,7 @@ fn content_info(alloc: Global, parts: &Unsigned, signature: &[u8]) -> Result<Vec
     let mut content = Vec::new(alloc);
     write_tlv(&mut content, 0x06, &SIGNED_DATA)?;
     write_tlv(&mut content, 0xa0, data.as_slice())?;
-    tlv(alloc, 0x30, content.as_slice())
+    tlv_bytes(alloc, 0x30, content.as_slice())
 }
 
 // That a hash value is short is known of its bytes.

@@ -6,17 +6,17 @@ use Rattle.civil_moment.specs.declared.moment.Moment.{Moment}
 use Rattle.civil_moment.specs.Moment.{Text}
 use Rattle.civil_moment.proofs.FirstFault.{no_fault}
 use Rattle.der_values.specs.Value.{value}
-use Rattle.der_values.specs.Typed.{integer_of, boolean_of}
+use Rattle.der_values.specs.Typed.{integer_of, boolean_of, version_of, IsInteger}
 use Rattle.der_values.specs.Shape.{tagged, unchecked, is_integer, checked, unread, spell}
 use Rattle.der_values.specs.Reading.{at_header}
 use Rattle.der_values.specs.Grammar.{ValidValue, Valid, Means, from_start}
-use Rattle.der_values.proofs.Written.{item, value_valid, oid_valid, integer_valid}
-use Rattle.tst_info.specs.Checks.{StampCheck, version_one, generalized_time, true_alone, stamp_checks, version_of, true_of, time_of}
+use Rattle.der_values.proofs.Written.{item, integer_passes, oid_passes, name_named, value_valid, oid_valid, integer_valid}
+use Rattle.tst_info.specs.Checks.{StampCheck, version_one, generalized_time, true_alone, stamp_checks, true_of, time_of}
 use Rattle.tst_info.specs.Imprint.{imprint_text}
-use Rattle.tst_info.specs.Spelling.{IsInteger, flag_text, nonce_text}
+use Rattle.tst_info.specs.Spelling.{flag_text, nonce_text}
 use Rattle.tst_info.specs.Info.{Tst, options_shape, OptionsParts, tst_contents_shape, TstParts, tst_shape, tst_of, with_text, ReadsTst, tst_contents, WritesTst, HasTstSpelling}
 use Rattle.tst_info.proofs.Lengths.{tst_shorter}
-use Rattle.tst_info.proofs.Readable.{integer_passes, oid_passes, name_named, imprint_parts, imprint_spelled, imprint_valid}
+use Rattle.tst_info.proofs.Readable.{imprint_parts, imprint_spelled, imprint_valid}
 
 -- ---- single values
 

@@ -1,27 +1,14 @@
 -- A part of what is written is no longer than the whole.
-use Rattle.std.proofs.Common.{ℕ, ◌<◌, ◌≤◌, List, ◌∷◌, [], ◌++◌, length, Option, Some, None, arith}
+use Rattle.std.proofs.Common.{ℕ, ◌<◌, List, ◌∷◌, [], ◌++◌, length, Option, Some, None}
 use Rattle.std.specs.Prelude.{IfSome}
 use Rattle.std.specs.Borrow.{Bor}
 use Rattle.std.specs.Option.{option_map}
-use Rattle.std.proofs.lemmas.List.{length-append}
-use Rattle.der_values.specs.Value.{value, length_octets}
+use Rattle.der_values.specs.Value.{value}
+use Rattle.der_values.proofs.Lengths.{front_shorter, second_shorter}
 use Rattle.tst_info.specs.Imprint.{imprint_text}
 use Rattle.tst_info.specs.Info.{Tst, tst_contents}
-use Rattle.tst_info.specs.Request.{Request, request_contents}
+use Rattle.tst_info.specs.Request.{ToStamp, request_contents}
 use Rattle.tst_info.specs.Spelling.{flag_text, nonce_text}
-
-pub content_shorter : (tag : ℕ) (content : List ℕ) → length content ≤ length (value tag content)
-unfolding value
-content_shorter tag content = omega (arith, length-append (length_octets (length content)) content)
-
-pub front_shorter : (xs ys : List ℕ) (most : ℕ) → length (xs ++ ys) < most → length xs < most
-front_shorter xs ys most short = omega (arith, length-append xs ys, short)
-
-pub first_shorter : (tag : ℕ) (content rest : List ℕ) (most : ℕ) → length (value tag content ++ rest) < most → length content < most
-first_shorter tag content rest most short = omega (arith, length-append (value tag content) rest, content_shorter tag content, short)
-
-pub second_shorter : (before : List ℕ) (tag : ℕ) (content : List ℕ) (most : ℕ) → length (before ++ value tag content) < most → length content < most
-second_shorter before tag content most short = omega (arith, length-append before (value tag content), content_shorter tag content, short)
 
 pub nonce_shorter : (before : List ℕ) (nonce : Option (List ℕ)) (most : ℕ) → length (before ++ nonce_text nonce) < most → IfSome nonce (λ n. length n < most)
 nonce_shorter before None most short = tt
@@ -62,11 +49,11 @@ tst_shorter t most short =
     }
 
 -- what stands in a request
-pub record RequestShort (q : Request) (most : ℕ) : Type 0 where
+pub record RequestShort (q : ToStamp) (most : ℕ) : Type 0 where
   pub imprint : length (imprint_text q.hash q.imprint) < most
   pub nonce : IfSome q.nonce (λ n. length n < most)
 
-pub request_shorter : (q : Request) (most : ℕ) → length (request_contents q) < most → RequestShort q most
+pub request_shorter : (q : ToStamp) (most : ℕ) → length (request_contents q) < most → RequestShort q most
 request_shorter q most short =
     let version = value 2 (1 ∷ []) in
     let imprint = version ++ value 48 (imprint_text q.hash q.imprint) in

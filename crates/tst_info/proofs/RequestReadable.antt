@@ -3,15 +3,16 @@ use Rattle.std.proofs.Common.{◌≡◌, ℕ, ◌<◌, ◌^◌, List, [], ◌∷
 use Rattle.std.specs.Prelude.{IfSome}
 use Rattle.std.proofs.lemmas.List.{append-nil}
 use Rattle.der_values.specs.Value.{value}
+use Rattle.der_values.specs.Typed.{IsInteger}
 use Rattle.der_values.specs.Shape.{tagged, unchecked, checked, spell}
 use Rattle.der_values.specs.Grammar.{ValidValue, Valid}
-use Rattle.der_values.proofs.Written.{value_valid, integer_valid}
+use Rattle.der_values.proofs.Written.{integer_passes, name_named, value_valid, integer_valid}
 use Rattle.tst_info.specs.Checks.{version_one, stamp_checks}
 use Rattle.tst_info.specs.Imprint.{imprint_text}
-use Rattle.tst_info.specs.Spelling.{IsInteger, nonce_text}
-use Rattle.tst_info.specs.Request.{Request, wishes_shape, WishesParts, request_contents_shape, RequestParts, request_of, ReadsRequest, request_contents, request_text, HasRequestSpelling}
+use Rattle.tst_info.specs.Spelling.{nonce_text}
+use Rattle.tst_info.specs.Request.{ToStamp, wishes_shape, WishesParts, request_contents_shape, RequestParts, request_of, ReadsRequest, request_contents, request_text, HasRequestSpelling}
 use Rattle.tst_info.proofs.Lengths.{request_shorter}
-use Rattle.tst_info.proofs.Readable.{integer_passes, name_named, imprint_parts, imprint_spelled, imprint_valid}
+use Rattle.tst_info.proofs.Readable.{imprint_parts, imprint_spelled, imprint_valid}
 use Rattle.tst_info.proofs.InfoReadable.{version_passes}
 
 abbrev wishes_parts : Option (List ℕ) → WishesParts
@@ -27,7 +28,7 @@ unfolding Valid spell value
 wishes_valid place None is short = (tt, (refl, refl), (tt, (refl, refl), (tt, (refl, refl), (tt, (refl, refl), refl))))
 wishes_valid place (Some n) is short = (tt, (refl, refl), (tt, integer_valid stamp_checks tt _ n short (integer_passes _ n is), (tt, (refl, refl), (tt, (refl, refl), refl))))
 
-module _ (q : Request) (is : HasRequestSpelling q) where
+module _ (q : ToStamp) (is : HasRequestSpelling q) where
   abbrev parts : RequestParts
   parts = (1 ∷ [], (imprint_parts q.hash is.hash q.imprint, wishes_parts q.nonce))
 

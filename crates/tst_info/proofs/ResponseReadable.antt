@@ -6,19 +6,18 @@ use Rattle.std.specs.Option.{option_map}
 use Rattle.std.proofs.lemmas.Bool.Decides.{nat_tests}
 use Rattle.std.proofs.lemmas.List.{append-nil}
 use Rattle.der_values.specs.Input.{Item}
-use Rattle.der_values.specs.Value.{value}
+use Rattle.der_values.specs.Value.{value, bytes_or_none}
 use Rattle.der_values.specs.Next.{next_of, expect_of, contents}
 use Rattle.der_values.specs.Typed.{integer_of}
 use Rattle.der_values.specs.Shape.{unchecked, checked, spell}
 use Rattle.der_values.specs.Reading.{read}
 use Rattle.der_values.specs.Grammar.{Valid, from_start}
 use Rattle.der_values.proofs.Values.{value_again}
+use Rattle.der_values.proofs.Lengths.{first_shorter}
 use Rattle.der_values.proofs.Written.{item, value_valid}
 use Rattle.tst_info.specs.declared.fault.RespFault.{RespFault}
 use Rattle.tst_info.specs.declared.fault.RespFault.TheVariants.{NotGranted, NoToken}
-use Rattle.tst_info.specs.Imprint.{bytes_or_none}
 use Rattle.tst_info.specs.Response.{granted, status_shape, response_contents_shape, response_shape, granted_of, token_next_of, response_checks, ResponseParts, ReadsResponse, response_first_fault, response_contents, response_text, IsToken, granted_token, answer_to, Answers}
-use Rattle.tst_info.proofs.Lengths.{first_shorter}
 
 -- ---- a value that stands in front
 

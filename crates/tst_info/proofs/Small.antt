@@ -6,11 +6,11 @@ use Rattle.std.proofs.lemmas.Bool.Decides.{nat_tests}
 use Rattle.std.proofs.lemmas.List.{length-append, length-map}
 use Rattle.civil_moment.specs.declared.moment.Moment.{Moment}
 use Rattle.civil_moment.specs.Moment.{Text, digits_text, fraction_text}
-use Rattle.der_values.specs.Value.{value}
-use Rattle.der_values.specs.Algorithm.{Name}
+use Rattle.der_values.specs.Value.{value, bytes_or_none}
+use Rattle.der_values.specs.Algorithm.{Name, name_contents}
 use Rattle.der_values.proofs.Values.{value_length}
-use Rattle.tst_info.proofs.Lengths.{content_shorter}
-use Rattle.tst_info.specs.Imprint.{bytes_or_none, name_text, imprint_text}
+use Rattle.der_values.proofs.Lengths.{content_shorter}
+use Rattle.tst_info.specs.Imprint.{imprint_text}
 use Rattle.tst_info.specs.Spelling.{flag_text, nonce_text}
 use Rattle.tst_info.specs.Info.{tst_contents}
 use Rattle.tst_info.specs.Request.{request_contents}
@@ -23,8 +23,8 @@ imprint_length : (hash : Name) (imprint : List ℕ) → length (imprint_text has
 imprint_length hash imprint =
     omega (
       arith,
-      length-append (value 48 (name_text hash)) (value 4 imprint),
-      value_length 48 (name_text hash),
+      length-append (value 48 (name_contents hash)) (value 4 imprint),
+      value_length 48 (name_contents hash),
       value_length 4 imprint,
       length-append (value 6 hash.oid) (bytes_or_none hash.params),
       value_length 6 hash.oid,
@@ -69,8 +69,8 @@ sizes_within_request hash imprint nonce =
       length-append version whole,
       content_longer nonce,
       content_shorter 48 (imprint_text hash imprint),
-      length-append (value 48 (name_text hash)) (value 4 imprint),
-      content_shorter 48 (name_text hash),
+      length-append (value 48 (name_contents hash)) (value 4 imprint),
+      content_shorter 48 (name_contents hash),
       content_shorter 4 imprint,
       length-append (value 6 hash.oid) (bytes_or_none hash.params),
       content_shorter 6 hash.oid,

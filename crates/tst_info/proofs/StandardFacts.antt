@@ -5,7 +5,7 @@ use Rattle.der_values.specs.declared.fault.DerKind.{DerKind}
 use Rattle.der_values.specs.declared.fault.DerKind.TheVariants.{NotMinimal, Trailing, BadValue}
 use Rattle.der_values.specs.Value.{extra, length_octets, value}
 use Rattle.der_values.specs.Next.{long_length_at, length_at, value_at, next_of, expect_of, finish_of}
-use Rattle.der_values.specs.Typed.{integer_of, boolean_of, oid_of}
+use Rattle.der_values.specs.Typed.{integer_of, boolean_of, oid_of, version_of}
 use Rattle.der_values.specs.Reading.{read, optional_of}
 use Rattle.der_values.specs.Grammar.{from_start}
 use Rattle.der_values.specs.Algorithm.{Name}
@@ -15,9 +15,9 @@ use Rattle.tst_info.specs.declared.fault.RespFault.TheVariants
 use Rattle.tst_info.specs.declared.fault.TstFault.{TstFault}
 use Rattle.tst_info.specs.declared.fault.TstKind.{TstKind}
 use Rattle.tst_info.specs.declared.fault.TstKind.TheVariants.{Der, Version}
-use Rattle.tst_info.specs.Checks.{version_of, true_of, stamp_checks}
+use Rattle.tst_info.specs.Checks.{true_of, stamp_checks}
 use Rattle.tst_info.specs.Info.{Tst, tst_contents, tst_first_fault}
-use Rattle.tst_info.specs.Request.{Request, request_shape, request_of, request_text, request_first_fault}
+use Rattle.tst_info.specs.Request.{ToStamp, request_shape, request_of, request_text, request_first_fault}
 use Rattle.tst_info.specs.Response.{granted_of, token_next_of, response_text, response_first_fault}
 
 -- id-sha256 without parameters (RFC 5754, 2.2), and the digest of `abc` (FIPS 180-2, B.1)
@@ -73,7 +73,7 @@ openssl_request =
     ++ (0x06 ∷ 0x04 ∷ 0x2a ∷ 0x03 ∷ 0x04 ∷ 0x01 ∷ 0x02 ∷ 0x09 ∷ 0x00 ∷ 0xd3 ∷ 0xca ∷ 0xb3 ∷ 0x6e ∷ 0xba ∷ 0x0b ∷ 0x52 ∷ 0x9c ∷ 0x01 ∷ 0x01 ∷ 0xff ∷ [])
 
 -- what is named of a reading
-abbrev asked : List ℕ → Option Request
+abbrev asked : List ℕ → Option ToStamp
 asked bytes = elim (read stamp_checks request_shape tt (from_start bytes)) [ Ok x ↦ Some (request_of x.0.0) | Err e ↦ None ]
 
 pub known_reading : asked openssl_request ≡ Some (record {

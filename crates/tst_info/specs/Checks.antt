@@ -1,10 +1,10 @@
 -- What single values of time-stamp infos and requests have to be, beyond their types.
-use Rattle.std.specs.Prelude.{ℕ, Bool, false, List, [], ◌∷◌, Option, Some, None, Result, Ok, Err, ◌==◌, if◌then◌else◌}
+use Rattle.std.specs.Prelude.{ℕ, false, Option, Some, None, Result, Ok, Err, if◌then◌else◌}
 use Rattle.der_values.specs.declared.fault.DerFault.{DerFault}
 use Rattle.der_values.specs.declared.fault.DerKind.TheVariants.{BadValue}
 use Rattle.der_values.specs.Input.{Item}
 use Rattle.der_values.specs.Steps.{◌>>=◌, lift}
-use Rattle.der_values.specs.Typed.{integer_of, boolean_of}
+use Rattle.der_values.specs.Typed.{boolean_of, version_of}
 use Rattle.der_values.specs.Shape.{Checks}
 use Rattle.civil_moment.specs.declared.fault.TimeFault.{TimeFault}
 use Rattle.civil_moment.specs.Fault.{first_fault}
@@ -12,6 +12,7 @@ use Rattle.tst_info.specs.declared.fault.TstFault.{TstFault}
 use Rattle.tst_info.specs.declared.fault.TstKind.{TstKind}
 use Rattle.tst_info.specs.declared.fault.TstKind.TheVariants.{Der, Version, Time}
 
+-- the names of the checks
 pub data StampCheck : Type 0 where
   version_one : StampCheck
   generalized_time : StampCheck
@@ -21,22 +22,19 @@ pub data StampCheck : Type 0 where
 abbrev pub der : DerFault → TstFault
 der e = record { place = e.place; kind = Der e.kind }
 
+-- a fault of this kind at this place
 abbrev pub tst_fault : {A : Type 0} → ℕ → TstKind → Result A TstFault
 tst_fault place kind = Err (record { place = place; kind = kind })
 
-abbrev pub is_one : List ℕ → Bool
-is_one [] = false
-is_one (b ∷ []) = b == 1
-is_one (a ∷ b ∷ bs) = false
-
 -- version INTEGER { v1(1) } (RFC 3161, 2.4.1, 2.4.2)
-unfoldable pub version_of : Item → Result (Unit {0}) TstFault
-version_of v = lift der (integer_of v) >>= λ b. if is_one b then Ok tt else tst_fault v.place Version
+abbrev pub version_at : Item → Result (Unit {0}) TstFault
+version_at v = version_of der (record { place = v.place; kind = Version }) v
 
 -- A BOOLEAN DEFAULT FALSE stands there only where it is TRUE (X.690, 11.5).
 unfoldable pub true_of : Item → Result (Unit {0}) TstFault
 true_of v = lift der (boolean_of v) >>= λ b. if b then Ok tt else tst_fault v.place (Der BadValue)
 
+-- the fault of a time, where it has one
 abbrev pub time_answer : ℕ → Option TimeFault → Result (Unit {0}) TstFault
 time_answer place None = Ok tt
 time_answer place (Some e) = tst_fault place (Time e)
@@ -45,8 +43,9 @@ time_answer place (Some e) = tst_fault place (Time e)
 unfoldable pub time_of : Item → Result (Unit {0}) TstFault
 time_of v = time_answer v.place (first_fault v.content)
 
+-- the check of each name, on a value
 abbrev pub judge : StampCheck → Item → Result (Unit {0}) TstFault
-judge version_one v = version_of v
+judge version_one v = version_at v
 judge generalized_time v = time_of v
 judge true_alone v = true_of v
 

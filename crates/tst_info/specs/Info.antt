@@ -15,38 +15,39 @@ use Rattle.std.specs.Option.{option_map}
 use Rattle.civil_moment.specs.declared.moment.Moment.{Moment}
 use Rattle.civil_moment.specs.Moment.{Text}
 use Rattle.der_values.specs.Value.{value}
+use Rattle.der_values.specs.Typed.{IsInteger, IsOid}
 use Rattle.der_values.specs.Shape.{tagged, unchecked, is_integer, is_oid, checked, Shape, nothing_more, unread, required, optional}
 use Rattle.der_values.specs.Reading.{first}
 use Rattle.der_values.specs.Grammar.{Means, from_start}
-use Rattle.der_values.specs.Algorithm.{Name, name_of, name_seen}
+use Rattle.der_values.specs.Algorithm.{Name, name_of, name_seen, IsName}
 use Rattle.tst_info.specs.declared.fault.TstFault.{TstFault}
 use Rattle.tst_info.specs.declared.info.TstInfo.{TstInfo}
 use Rattle.tst_info.specs.Checks.{StampCheck, version_one, generalized_time, true_alone, stamp_checks}
 use Rattle.tst_info.specs.Imprint.{imprint_shape, ImprintParts, imprint_text}
-use Rattle.tst_info.specs.Spelling.{IsInteger, IsOid, IsName, flag_text, nonce_text}
+use Rattle.tst_info.specs.Spelling.{flag_text, nonce_text}
 
 -- ---- 1. the table; accuracy, tsa and extensions are not looked into
 
 abbrev pub options_shape : Shape StampCheck
 options_shape =
-    optional (tagged 48) unchecked unread (
-    optional (tagged 1) (checked true_alone) unread (
-    optional (tagged 2) is_integer unread (
-    optional (tagged 160) unchecked unread (
-    optional (tagged 161) unchecked unread
+    optional (tagged 0x30) unchecked unread (
+    optional (tagged 0x01) (checked true_alone) unread (
+    optional (tagged 0x02) is_integer unread (
+    optional (tagged 0xa0) unchecked unread (
+    optional (tagged 0xa1) unchecked unread
     nothing_more))))
 
 abbrev pub tst_contents_shape : Shape StampCheck
 tst_contents_shape =
-    required (tagged 2) (checked version_one) unread (
-    required (tagged 6) is_oid unread (
-    required (tagged 48) unchecked imprint_shape (
-    required (tagged 2) is_integer unread (
-    required (tagged 24) (checked generalized_time) unread
+    required (tagged 0x02) (checked version_one) unread (
+    required (tagged 0x06) is_oid unread (
+    required (tagged 0x30) unchecked imprint_shape (
+    required (tagged 0x02) is_integer unread (
+    required (tagged 0x18) (checked generalized_time) unread
     options_shape))))
 
 abbrev pub tst_shape : Shape StampCheck
-tst_shape = required (tagged 48) unchecked tst_contents_shape nothing_more
+tst_shape = required (tagged 0x30) unchecked tst_contents_shape nothing_more
 
 -- ---- 2. the parts that are named; the time is a text in the table, and a moment in what the text says
 
@@ -107,18 +108,20 @@ pub record ReadsTst (bytes : List ℕ) (t : Tst Moment) : Type 0 where
   pub said : Text text t.time
   pub meant : Means stamp_checks tst_shape tt (λ p σ. tst_of p.0) (from_start bytes) (with_text text t)
 
+-- the first fault of the bytes as a TSTInfo, or none
 abbrev pub tst_first_fault : List ℕ → Option TstFault
 tst_first_fault bytes = first stamp_checks tst_shape tt (from_start bytes)
 
 -- ---- 4. what is written: no accuracy, no tsa, no extensions
 
+-- the contents of a TSTInfo as it is written
 abbrev pub tst_contents : Tst (List ℕ) → List ℕ
 tst_contents t =
-    value 2 (1 ∷ [])
-    ++ value 6 t.policy
-    ++ value 48 (imprint_text t.hash t.imprint)
-    ++ value 2 t.serial
-    ++ value 24 t.time
+    value 0x02 (1 ∷ [])
+    ++ value 0x06 t.policy
+    ++ value 0x30 (imprint_text t.hash t.imprint)
+    ++ value 0x02 t.serial
+    ++ value 0x18 t.time
     ++ flag_text t.ordering
     ++ nonce_text t.nonce
 
@@ -126,7 +129,7 @@ tst_contents t =
 pub record WritesTst (bytes : List ℕ) (t : Tst Moment) : Type 0 where
   pub text : List ℕ
   pub said : Text text t.time
-  pub is : bytes ≡ value 48 (tst_contents (with_text text t))
+  pub is : bytes ≡ value 0x30 (tst_contents (with_text text t))
 
 -- The parts have a spelling.
 pub record HasTstSpelling (t : Tst Moment) : Type 0 where

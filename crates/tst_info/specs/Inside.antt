@@ -5,14 +5,28 @@ use Rattle.civil_moment.specs.declared.moment.Moment.{Moment}
 use Rattle.civil_moment.specs.Moment.{Text}
 use Rattle.der_values.specs.Input.{Input}
 use Rattle.der_values.specs.Reading.{Reading, read, Found}
+use Rattle.der_values.specs.Algorithm.{Name, name_of, name_seen}
 use Rattle.tst_info.specs.declared.fault.TstFault.{TstFault}
 use Rattle.tst_info.specs.declared.fault.RespFault.{RespFault}
+use Rattle.tst_info.specs.declared.imprint.MessageImprint.{MessageImprint}
 use Rattle.tst_info.specs.declared.info.TstInfo.{TstInfo}
 use Rattle.tst_info.specs.declared.info.Options.{Options}
 use Rattle.tst_info.specs.Checks.{stamp_checks}
+use Rattle.tst_info.specs.Imprint.{imprint_shape, ImprintParts}
 use Rattle.tst_info.specs.Info.{Tst, options_shape, OptionsParts, tst_contents_shape, TstParts, tst_shape, tst_seen, with_text}
 use Rattle.tst_info.specs.Request.{wishes_shape, WishesParts, request_contents_shape, RequestParts, request_shape}
 use Rattle.tst_info.specs.Response.{response_checks, response_contents_shape, ResponseParts, response_shape}
+
+-- ---- imprints: the hash that was taken, and its value
+
+abbrev pub imprint_of : ImprintParts → Name × List ℕ
+imprint_of p = (name_of p.0, p.1.0)
+
+abbrev pub imprint_seen : MessageImprint → Name × List ℕ
+imprint_seen x = (name_seen x.hash, x.bytes.now)
+
+abbrev pub imprint_at : Input → Reading ImprintParts (Unit {0}) TstFault
+imprint_at input = read stamp_checks imprint_shape tt input
 
 -- ---- infos
 

@@ -1,21 +1,21 @@
-ghost use Rattle.std.specs.Prelude.{◌≡◌, IfOk, IfSome};
+ghost use Rattle.std.specs.Prelude.{IfOk, IfSome};
 ghost use Rattle.std.specs.Option.{option_map};
 ghost use Rattle.civil_moment.specs.Moment.{Text};
 ghost use Rattle.der_values.specs.Steps.{Gives};
 ghost use Rattle.der_values.specs.Next.{seen, IsValue};
 ghost use Rattle.der_values.specs.Shape.{is_integer, is_oid, checked};
 ghost use Rattle.der_values.specs.Reading.{check_optional};
-ghost use Rattle.tst_info.specs.Checks.{version_of, true_of, time_of, true_alone, stamp_checks};
+ghost use Rattle.tst_info.specs.Checks.{version_at, true_of, time_of, true_alone, stamp_checks};
 
 use crate::fault::{TstFault, TstKind};
 use civil_moment::{Moment, read_generalized};
 use der_values::{DerKind, Tlv, read_boolean, read_integer, read_oid};
 
 // Version 1 is the only one.
-#[tactic(auto, unfolding(crate::specs::Checks::version_of))]
+#[tactic(auto, unfolding(der_values::specs::Typed::version_of))]
 pub(crate) fn check_version(t: &Tlv<'_>) -> Result<(), TstFault>
     requires { IsValue t.now }
-    ensures { Gives (λ u. u) result (version_of (seen t.now)) }
+    ensures { Gives (λ u. u) result (version_at (seen t.now)) }
 {
     match read_integer(t)? {
         [1] => Ok(()),

@@ -1,6 +1,6 @@
 ghost use Rattle.der_values.specs.Next.{contents, seen, IsValue};
 ghost use Rattle.der_values.specs.Reading.{Finds};
-ghost use Rattle.tst_info.specs.Imprint.{imprint_of, imprint_seen, imprint_at};
+ghost use Rattle.tst_info.specs.Inside.{imprint_of, imprint_seen, imprint_at};
 
 use crate::fault::TstFault;
 use der_values::{AlgName, Tlv, read_algorithm};

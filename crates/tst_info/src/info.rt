@@ -1,4 +1,4 @@
-ghost use Rattle.std.specs.Prelude.{◌≡◌, ◌<◌, ◌^◌, ℕ, List, length, Some, IfOk, IfErr, IsOkAnd};
+ghost use Rattle.std.specs.Prelude.{◌≡◌, ◌<◌, ◌^◌, length, Some, IfOk, IfErr, IsOkAnd};
 ghost use Rattle.civil_moment.specs.declared.moment.Moment.{Moment};
 ghost use Rattle.der_values.specs.Next.{contents, seen, IsValue};
 ghost use Rattle.der_values.specs.Reading.{Finds};
@@ -9,9 +9,9 @@ ghost use Rattle.tst_info.specs.Inside.{options_of, options_seen, options_at, ts
 use crate::checks::{check_flag, check_nonce, check_version, time};
 use crate::fault::TstFault;
 use crate::imprint::imprint;
-use crate::writing::{imprint_bytes, sequence, write_flag, write_nonce};
+use crate::writing::{imprint_bytes, write_flag, write_nonce};
 use civil_moment::{Moment, write_generalized};
-use der_values::{AlgName, Reader, Tlv, content_of, read_integer, read_oid, write_tlv};
+use der_values::{AlgName, Reader, Tlv, content_of, read_integer, read_oid, tlv_bytes, write_tlv};
 use std::alloc::{AllocError, Global};
 
 /// A TSTInfo (RFC 3161, 2.4.2), by the parts that are named; accuracy, tsa and extensions are not looked into.
@@ -126,5 +126,5 @@ pub fn write_tst(alloc: Global, info: &TstInfo<'_>) -> Result<Vec<u8>, AllocErro
 {
     let time = write_generalized(alloc, &info.time)?;
     let contents = contents_bytes(alloc, info, time.as_slice())?;
-    sequence(alloc, contents.as_slice())
+    tlv_bytes(alloc, 0x30, contents.as_slice())
 }

@@ -3,7 +3,7 @@
 ghost use Rattle.std.specs.Prelude.{◌≡◌, ◌<◌, ◌≤◌, ◌^◌, ℕ, List, length, Option, IfSome};
 ghost use Rattle.civil_moment.specs.declared.moment.Moment.{Moment};
 ghost use Rattle.tst_info.specs.Info.{Tst, ReadsTst, WritesTst, HasTstSpelling};
-ghost use Rattle.tst_info.specs.Request.{Request, ReadsRequest, request_contents, request_text, HasRequestSpelling};
+ghost use Rattle.tst_info.specs.Request.{ToStamp, ReadsRequest, request_contents, request_text, HasRequestSpelling};
 ghost use Rattle.tst_info.specs.Response.{ReadsResponse, response_contents, response_text, IsToken, answer_to, Answers};
 
 /// No bytes are two infos.
@@ -13,7 +13,7 @@ pub fn no_bytes_are_two_infos()
 
 /// No bytes are two requests.
 pub fn no_bytes_are_two_requests()
-    ensures { (bytes : List ℕ) (a b : Request) → ReadsRequest bytes a → ReadsRequest bytes b → a ≡ b }
+    ensures { (bytes : List ℕ) (a b : ToStamp) → ReadsRequest bytes a → ReadsRequest bytes b → a ≡ b }
 {}
 
 /// No bytes are responses with two tokens.
@@ -33,13 +33,13 @@ pub fn a_written_info_is_read_again()
 
 /// A written request is read again.
 pub fn a_written_request_is_read_again()
-    ensures { (parts : Request) → HasRequestSpelling parts → ReadsRequest (request_text parts) parts }
+    ensures { (parts : ToStamp) → HasRequestSpelling parts → ReadsRequest (request_text parts) parts }
 {}
 
 /// A request that was read can be written, with contents that are no longer than its bytes.
 pub fn a_read_request_can_be_written()
-    ensures spelling { (bytes : List ℕ) (parts : Request) → ReadsRequest bytes parts → HasRequestSpelling parts }
-    ensures length { (bytes : List ℕ) (parts : Request) → ReadsRequest bytes parts → length (request_contents parts) ≤ length bytes }
+    ensures spelling { (bytes : List ℕ) (parts : ToStamp) → ReadsRequest bytes parts → HasRequestSpelling parts }
+    ensures length { (bytes : List ℕ) (parts : ToStamp) → ReadsRequest bytes parts → length (request_contents parts) ≤ length bytes }
 {}
 
 /// A written response is read as its token where it grants one, and else refused for its status or for want of one.

@@ -1,16 +1,16 @@
-ghost use Rattle.std.specs.Prelude.{◌≡◌, ◌<◌, ◌^◌, ℕ, List, length, Some, IfOk, IfErr, IsOkAnd};
+ghost use Rattle.std.specs.Prelude.{◌≡◌, ◌<◌, ◌^◌, length, Some, IfOk, IfErr, IsOkAnd};
 ghost use Rattle.std.specs.Option.{option_map};
 ghost use Rattle.der_values.specs.Next.{contents, seen, IsValue};
 ghost use Rattle.der_values.specs.Reading.{Finds};
 ghost use Rattle.der_values.specs.Grammar.{from_start};
-ghost use Rattle.tst_info.specs.Request.{Request, request_of, request_seen, ReadsRequest, request_first_fault, request_contents, request_text, HasRequestSpelling};
+ghost use Rattle.tst_info.specs.Request.{ToStamp, request_of, request_seen, ReadsRequest, request_first_fault, request_contents, request_text, HasRequestSpelling};
 ghost use Rattle.tst_info.specs.Inside.{nonce_of, wishes_at, request_contents_at, request_at};
 
 use crate::checks::{check_flag, check_nonce, check_policy, check_version};
 use crate::fault::TstFault;
 use crate::imprint::imprint;
-use crate::writing::{imprint_bytes, sequence, write_nonce};
-use der_values::{AlgName, Reader, Tlv, content_of, write_tlv};
+use crate::writing::{imprint_bytes, write_nonce};
+use der_values::{AlgName, Reader, Tlv, content_of, tlv_bytes, write_tlv};
 use std::alloc::{AllocError, Global};
 
 /// A TimeStampReq (RFC 3161, 2.4.1), by the parts that are named: reqPolicy, certReq and extensions are not.
@@ -70,7 +70,7 @@ fn whole_request(bytes: &[u8]) -> Result<StampRequest<'_>, TstFault>
 pub fn read_request(bytes: &[u8]) -> Result<StampRequest<'_>, TstFault>
     // What is answered is what the bytes say, and what they say is answered.
     ensures found { IfOk result (λ q. ReadsRequest bytes.now (request_seen q)) }
-    ensures only { (parts : Request) → ReadsRequest bytes.now parts → IsOkAnd result (λ q. request_seen q ≡ parts) }
+    ensures only { (parts : ToStamp) → ReadsRequest bytes.now parts → IsOkAnd result (λ q. request_seen q ≡ parts) }
 
     // Else the first fault is.
     ensures fault { IfErr result (λ e. request_first_fault bytes.now ≡ Some e) }
@@ -98,5 +98,5 @@ pub fn write_request(alloc: Global, request: &StampRequest<'_>) -> Result<Vec<u8
     ensures read { IfOk result (λ bytes. ReadsRequest bytes.items (request_seen request.now)) }
 {
     let contents = contents_bytes(alloc, request)?;
-    sequence(alloc, contents.as_slice())
+    tlv_bytes(alloc, 0x30, contents.as_slice())
 }

@@ -9,8 +9,7 @@ ghost use Rattle.tst_info.specs.Response.{granted_of, token_next_of, token_of, R
 ghost use Rattle.tst_info.specs.Inside.{response_contents_at, response_at};
 
 use crate::fault::RespFault;
-use crate::writing::{sequence, write_bytes};
-use der_values::{DerFault, DerKind, Reader, Tlv, read_integer, write_tlv};
+use der_values::{DerFault, DerKind, Reader, Tlv, read_integer, tlv_bytes, write_if_there};
 use std::alloc::{AllocError, Global};
 
 // That the status grants: it is 0 or 1.
@@ -22,10 +21,7 @@ fn check_granted(t: &Tlv<'_>) -> Result<(), RespFault>
     match read_integer(t)? {
         [0 | 1] => Ok(()),
         [status @ 2..0x80] => Err(RespFault::NotGranted(*status)),
-        _ => Err(RespFault::Der(DerFault {
-            place: t.place,
-            kind: DerKind::BadValue,
-        })),
+        _ => Err(RespFault::Der(DerFault::at(t.place, DerKind::BadValue))),
     }
 }
 
@@ -79,11 +75,10 @@ pub fn read_response(bytes: &[u8]) -> Result<&[u8], RespFault>
 
 // The PKIStatusInfo that says no more than the status.
 fn status_bytes(alloc: Global, status: u8) -> Result<Vec<u8>, AllocError>
-    ensures { IfOk result (λ bytes. bytes.items ≡ value 48 (value 2 (status ∷ []))) }
+    ensures { IfOk result (λ bytes. bytes.items ≡ value 0x30 (value 0x02 (status ∷ []))) }
 {
-    let mut number = Vec::new(alloc);
-    write_tlv(&mut number, 0x02, &[status])?;
-    sequence(alloc, number.as_slice())
+    let number = tlv_bytes(alloc, 0x02, &[status])?;
+    tlv_bytes(alloc, 0x30, number.as_slice())
 }
 
 /// The one spelling of a response with this status, with nothing behind it but the token.
@@ -101,6 +96,6 @@ pub fn write_response(
     ensures read { IfOk result (λ bytes. Answers bytes.items (answer_to status (option_map (λ b. b.now) token.entry))) }
 {
     let mut contents = status_bytes(alloc, status)?;
-    write_bytes(&mut contents, token)?;
-    sequence(alloc, contents.as_slice())
+    write_if_there(&mut contents, token)?;
+    tlv_bytes(alloc, 0x30, contents.as_slice())
 }

@@ -1,22 +1,11 @@
 ghost use Rattle.std.specs.Prelude.{◌≡◌, ◌<◌, ◌^◌, ◌++◌, length, IfOk, IfSome, OnOk};
 ghost use Rattle.std.specs.Option.{option_map};
-ghost use Rattle.der_values.specs.Value.{value};
 ghost use Rattle.der_values.specs.Algorithm.{name_seen};
-ghost use Rattle.tst_info.specs.Imprint.{bytes_or_none, name_text, imprint_text};
+ghost use Rattle.tst_info.specs.Imprint.{imprint_text};
 ghost use Rattle.tst_info.specs.Spelling.{flag_text, nonce_text};
 
-use der_values::{AlgName, write_tlv};
+use der_values::{AlgName, write_algorithm, write_tlv};
 use std::alloc::{AllocError, Global};
-
-// Adds bytes where there are some.
-pub(crate) fn write_bytes(out: &mut Vec<u8>, bytes: Option<&[u8]>) -> Result<(), AllocError>
-    ensures { OnOk result (out.new.items ≡ out.old.items ++ bytes_or_none (option_map (λ b. b.now) bytes.entry)) }
-{
-    match bytes {
-        Some(bytes) => out.extend_from_slice(bytes),
-        None => Ok(()),
-    }
-}
 
 // Adds a BOOLEAN that is FALSE where it does not stand.
 pub(crate) fn write_flag(out: &mut Vec<u8>, flag: bool) -> Result<(), AllocError>
@@ -40,17 +29,6 @@ pub(crate) fn write_nonce(out: &mut Vec<u8>, nonce: Option<&[u8]>) -> Result<(),
     }
 }
 
-// The contents of an AlgorithmIdentifier.
-fn name_bytes(alloc: Global, name: &AlgName<'_>) -> Result<Vec<u8>, AllocError>
-    requires { length (name_text (name_seen name.now)) < 2 ^ 32 }
-    ensures { IfOk result (λ contents. contents.items ≡ name_text (name_seen name.now)) }
-{
-    let mut contents = Vec::new(alloc);
-    write_tlv(&mut contents, 0x06, name.oid)?;
-    write_bytes(&mut contents, name.params)?;
-    Ok(contents)
-}
-
 // The contents of a MessageImprint.
 pub(crate) fn imprint_bytes(
     alloc: Global,
@@ -60,19 +38,8 @@ pub(crate) fn imprint_bytes(
     requires { length (imprint_text (name_seen hash.now) imprint.now) < 2 ^ 32 }
     ensures { IfOk result (λ contents. contents.items ≡ imprint_text (name_seen hash.now) imprint.now) }
 {
-    let name = name_bytes(alloc, hash)?;
     let mut contents = Vec::new(alloc);
-    write_tlv(&mut contents, 0x30, name.as_slice())?;
+    write_algorithm(&mut contents, 0x30, hash)?;
     write_tlv(&mut contents, 0x04, imprint)?;
     Ok(contents)
-}
-
-// The SEQUENCE of these contents.
-pub(crate) fn sequence(alloc: Global, contents: &[u8]) -> Result<Vec<u8>, AllocError>
-    requires { length contents.now < 2 ^ 32 }
-    ensures { IfOk result (λ bytes. bytes.items ≡ value 48 contents.now) }
-{
-    let mut bytes = Vec::new(alloc);
-    write_tlv(&mut bytes, 0x30, contents)?;
-    Ok(bytes)
 }

@@ -4,7 +4,7 @@ use Rattle.der_values.specs.Shape.{tagged}
 use Rattle.der_values.proofs.Loop.{one_more}
 use Rattle.cms_signed.specs.declared.fault.CmsFault.TheVariants.{Der}
 use Rattle.cms_signed.specs.State.{State, start}
-use Rattle.cms_signed.specs.Signed.{algorithm_in, each_algorithm}
+use Rattle.cms_signed.specs.Inside.{algorithm_in, each_algorithm}
 use Rattle.cms_signed.proofs.algorithms.all_algorithms.Goals as goal
 
 pub loop-reader-preserved : goal.loop-reader-preserved

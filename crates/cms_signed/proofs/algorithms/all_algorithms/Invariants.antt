@@ -3,7 +3,7 @@ use Rattle.der_values.specs.Shape.{tagged}
 use Rattle.der_values.proofs.Loop.{ReadSoFar}
 use Rattle.cms_signed.specs.declared.fault.CmsFault.TheVariants.{Der}
 use Rattle.cms_signed.specs.State.{start}
-use Rattle.cms_signed.specs.Signed.{algorithm_in, each_algorithm}
+use Rattle.cms_signed.specs.Inside.{algorithm_in, each_algorithm}
 use Rattle.cms_signed.proofs.algorithms.all_algorithms.Given as goal
 
 abbrev pub invariant-loop-reader : goal.invariant-loop-reader

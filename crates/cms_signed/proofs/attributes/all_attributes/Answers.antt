@@ -3,8 +3,7 @@ use Rattle.der_values.specs.Next.{seen}
 use Rattle.der_values.specs.Shape.{tagged}
 use Rattle.der_values.proofs.Loop.{one_more}
 use Rattle.cms_signed.specs.declared.fault.CmsFault.TheVariants.{Der}
-use Rattle.cms_signed.specs.Attributes.{attribute_in, each_attribute}
-use Rattle.cms_signed.specs.Inside.{state_of}
+use Rattle.cms_signed.specs.Inside.{state_of, attribute_in, each_attribute}
 use Rattle.cms_signed.proofs.attributes.all_attributes.Goals as goal
 
 pub loop-reader-preserved : goal.loop-reader-preserved

@@ -2,8 +2,7 @@ use Rattle.std.proofs.Common.{List, length}
 use Rattle.der_values.specs.Shape.{tagged}
 use Rattle.der_values.proofs.Loop.{ReadSoFar}
 use Rattle.cms_signed.specs.declared.fault.CmsFault.TheVariants.{Der}
-use Rattle.cms_signed.specs.Attributes.{attribute_in, each_attribute}
-use Rattle.cms_signed.specs.Inside.{state_of}
+use Rattle.cms_signed.specs.Inside.{state_of, attribute_in, each_attribute}
 use Rattle.cms_signed.proofs.attributes.all_attributes.Given as goal
 
 abbrev pub invariant-loop-reader : goal.invariant-loop-reader

@@ -4,7 +4,7 @@ use Rattle.der_values.specs.Next.{seen}
 use Rattle.der_values.specs.Shape.{any_tag}
 use Rattle.der_values.specs.Reading.{read}
 use Rattle.der_values.proofs.Loop.{one_more, header_fails}
-use Rattle.cms_signed.specs.Checks.{value_in, each_value}
+use Rattle.cms_signed.specs.Inside.{value_in, each_value}
 use Rattle.cms_signed.proofs.signers.count_values.Goals as goal
 
 pub loop-reader-preserved : goal.loop-reader-preserved

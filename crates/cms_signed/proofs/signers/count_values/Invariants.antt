@@ -1,7 +1,7 @@
 use Rattle.std.proofs.Common.{◌≡◌, ◌+◌, ◌≤◌, length, ℕ, List}
 use Rattle.der_values.specs.Shape.{any_tag}
 use Rattle.der_values.proofs.Loop.{ReadSoFar}
-use Rattle.cms_signed.specs.Checks.{value_in, each_value}
+use Rattle.cms_signed.specs.Inside.{value_in, each_value}
 use Rattle.cms_signed.proofs.signers.count_values.Given as goal
 
 abbrev pub invariant-loop-reader : goal.invariant-loop-reader

@@ -1,6 +1,5 @@
 use Rattle.std.proofs.Common.{◌∙◌, sym}
-use Rattle.cms_signed.specs.Text.{attributes_text}
-use Rattle.cms_signed.specs.Inside.{to_sign}
+use Rattle.cms_signed.specs.Text.{attributes_text, to_sign}
 use Rattle.cms_signed.proofs.Answered.{if_ok_then}
 use Rattle.cms_signed.proofs.AttributesText.{set_of}
 use Rattle.cms_signed.proofs.writing.attrs_to_sign.Goals as goal

@@ -1,4 +1,4 @@
-use Rattle.cms_signed.specs.Inside.{to_sign}
+use Rattle.cms_signed.specs.Text.{to_sign}
 use Rattle.cms_signed.proofs.Room.{has_room, data_short}
 use Rattle.cms_signed.proofs.writing.content_info.Goals as goal
 

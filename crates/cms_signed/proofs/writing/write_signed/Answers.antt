@@ -1,4 +1,4 @@
-use Rattle.cms_signed.specs.Inside.{to_sign}
+use Rattle.cms_signed.specs.Text.{to_sign}
 use Rattle.cms_signed.proofs.Answered.{if_ok_then}
 use Rattle.cms_signed.proofs.TokenWritten.{is_read_again}
 use Rattle.cms_signed.proofs.writing.write_signed.Goals as goal

@@ -9,4 +9,4 @@ pub returns-clause-read : goal.returns-clause-read
 returns-clause-read c =
     let contents = c.as_slice.ensures.value ∙ c.in_ok-contents.ensures in
     let parts = request_seen c.args.request.now in
-    if_ok c.sequence.result (λ bytes is. subst (λ b. ReadsRequest b parts) (sym (is ∙ ap (λ content. value 48 content) contents)) (request_read_again parts c.requires)) c.sequence.ensures
+    if_ok c.tlv_bytes.result (λ bytes is. subst (λ b. ReadsRequest b parts) (sym (is ∙ ap (λ content. value 48 content) contents)) (request_read_again parts c.requires)) c.tlv_bytes.ensures.ok

@@ -3,7 +3,7 @@ use Rattle.der_values.specs.Value.{value}
 use Rattle.der_values.proofs.Values.{value_length}
 use Rattle.cms_signed.specs.Text.{IsSid}
 use Rattle.cms_signed.proofs.Room.{short_has_text}
-use Rattle.cms_signed.proofs.tests.written.Goals as goal
+use Rattle.cms_signed.proofs.writing_tests.written.Goals as goal
 
 low : (tag : ℕ) → (tag ≡ 0x30) ⊎ (tag ≡ 0x80) → tag % 32 ≢ 31
 low tag (inl e) = rw e (λ h. omega arith)
