@@ -10,25 +10,26 @@ use Rattle.hash_kit.specs.declared.algorithm.HashAlg.{HashAlg}
 use Rattle.hash_kit.specs.declared.algorithm.HashAlg.TheVariants.{Sha256, Sha384, Sha512}
 use Rattle.der_values.specs.Next.{is_empty}
 use Rattle.algorithm_policy.specs.declared.signer.Signer.{Signer}
-use Rattle.algorithm_policy.specs.declared.entry.Entry.{Entry}
-use Rattle.algorithm_policy.specs.declared.entry.Entry.TheVariants.{Hash, Authority}
+use Rattle.algorithm_policy.specs.declared.policy_line.PolicyLine.{PolicyLine}
+use Rattle.algorithm_policy.specs.declared.policy_line.PolicyLine.TheVariants.{Hash, Authority}
 use Rattle.algorithm_policy.specs.declared.fault.PolicyKind.{PolicyKind}
 use Rattle.algorithm_policy.specs.declared.fault.PolicyKind.TheVariants.{Header, Form, Name, Hex, Sid, Key, Cert, Date, Order, Twice, TooMany}
 use Rattle.algorithm_policy.specs.Words.{is_name, is_hex, is_sid, is_key, is_cert, is_time, bytes_of}
 use Rattle.algorithm_policy.specs.Content.{Content, IsPolicy, is_below, empty}
-use Rattle.algorithm_policy.specs.Text.{header, ended, LinesText, entries, PolicyText}
+use Rattle.algorithm_policy.specs.Text.{header, ended, LinesText, policy_lines, PolicyText}
 use Rattle.algorithm_policy.specs.Fault.{Line, hash, authority, form_of, parts, words, word_fault, place_fault, line_fault, or_else, subject_of, Subject, fault_in, fault_of_lines, first_fault}
-use Rattle.algorithm_policy.specs.Inside.{IsEntry, SaysEntry, Adds, MayCome, entry_fault, entry_subject, subjects, names_from, with_end, with_signer}
-use Rattle.algorithm_policy.proofs.EntryLemmas.{Sound, says_signer, says_hash, says_authority}
+use Rattle.algorithm_policy.specs.Change.{with_end, with_signer}
+use Rattle.algorithm_policy.specs.Inside.{IsPolicyLine, SaysLine, Adds, MayCome, next_fault, line_subject, subjects, names_from}
+use Rattle.algorithm_policy.proofs.PolicyLineLemmas.{Sound, says_signer, says_hash, says_authority}
 use Rattle.algorithm_policy.proofs.PlaceLemmas.{map_joined, hash_place, signer_place, adds_hash, adds_signer}
 use Rattle.algorithm_policy.proofs.TimeLemmas.{said}
 
--- ---- an entry that a line says
+-- ---- what a line says
 
 pub record Found (line : List ℕ) (form : Line) : Type 0 where
-  pub entry : Entry
-  pub says : SaysEntry line entry
-  pub subject : subject_of form ≡ entry_subject entry
+  pub said : PolicyLine
+  pub says : SaysLine line said
+  pub subject : subject_of form ≡ line_subject said
 
 sound_words : (a b c d e : List ℕ) → word_fault (authority a b c d e) ≡ None → Sound a b c d e
 sound_words a b c d e h = by_tests (is_name a) (is_hex b && is_hex c && is_hex d) (is_sid (bytes_of b)) (is_key (bytes_of c)) (is_cert (bytes_of d)) (is_time e) refl refl refl refl refl refl h
@@ -54,18 +55,18 @@ found : (line : List ℕ) (form : Line) → form_of (words line) ≡ Some form �
 found line (hash alg end) is sound =
     let ok = timed end sound in
     let m = said end ok in
-    record { entry = Hash alg m.moment; says = says_hash line alg end m.moment is m.says ok; subject = refl }
+    record { said = Hash alg m.moment; says = says_hash line alg end m.moment is m.says ok; subject = refl }
 found line (authority a b c d e) is sound =
     let s = sound_words a b c d e sound in
     let m = said e s.end in
     let one : Signer = record { name = a; sid = bytes_of b; key = bytes_of c; cert = bytes_of d; end = m.moment } in
-    record { entry = Authority one; says = says_authority line a b c d e one is (says_signer a b c d e one s refl refl refl refl m.says); subject = refl }
+    record { said = Authority one; says = says_authority line a b c d e one is (says_signer a b c d e one s refl refl refl refl m.says); subject = refl }
 
 -- ---- a policy that takes it in
 
-pub record Taken (c : Content) (entry : Entry) : Type 0 where
+pub record Taken (c : Content) (said : PolicyLine) : Type 0 where
   pub policy : Content
-  pub adds : Adds c policy entry
+  pub adds : Adds c policy said
 
 same_signers : (c : Content) (alg : HashAlg) (end : Moment) → IsPolicy c → IsPolicy (with_end c alg end)
 same_signers c Sha256 end h = record { signers = h.signers; ascending = h.ascending; distinct = h.distinct; few = h.few }
@@ -76,7 +77,7 @@ free : (b : Bool) → cond b (Some Order) None ≡ None → b ≡ false
 free true h = cc h
 free false h = refl
 
-taken : (c : Content) (entry : Entry) → IsPolicy c → IsEntry entry → entry_fault c entry ≡ None → Taken c entry
+taken : (c : Content) (said : PolicyLine) → IsPolicy c → IsPolicyLine said → next_fault c said ≡ None → Taken c said
 taken c (Hash alg end) valid is h =
     record {
       policy = with_end c alg end;
@@ -97,11 +98,11 @@ taken c (Authority s) valid is h =
 pub record Grown (c : Content) (lines : List (List ℕ)) : Type 0 where
   pub policy : Content
   pub valid : IsPolicy policy
-  pub more : List Entry
+  pub more : List PolicyLine
   pub says : List (List ℕ)
   pub text : LinesText says more
   pub lines_are : lines ≡ says ++ [] ∷ []
-  pub added : entries policy ≡ entries c ++ more
+  pub added : policy_lines policy ≡ policy_lines c ++ more
 
 -- what the first fault is, by the fault of this line
 abbrev after : ℕ → List Subject → List (List ℕ) → Line → Option PolicyKind → Option (ℕ × PolicyKind)
@@ -111,15 +112,15 @@ nothing : (line : List ℕ) → is_empty line ≡ true → line ≡ []
 nothing [] h = refl
 nothing (b ∷ bs) h = cc h
 
-grown_by : (c : Content) (line : List ℕ) (form : Line) (lines : List (List ℕ)) (f : Found line form) (t : Taken c f.entry) → Grown t.policy lines → Grown c (line ∷ lines)
+grown_by : (c : Content) (line : List ℕ) (form : Line) (lines : List (List ℕ)) (f : Found line form) (t : Taken c f.said) → Grown t.policy lines → Grown c (line ∷ lines)
 grown_by c line form lines f t g = record {
   policy = g.policy;
   valid = g.valid;
-  more = f.entry ∷ g.more;
+  more = f.said ∷ g.more;
   says = line ∷ g.says;
   text = (f.says.text, g.text);
   lines_are = ap (λ l. line ∷ l) g.lines_are;
-  added = g.added ∙ ap (λ l. l ++ g.more) t.adds.added ∙ append_assoc (entries c) (f.entry ∷ []) g.more;
+  added = g.added ∙ ap (λ l. l ++ g.more) t.adds.added ∙ append_assoc (policy_lines c) (f.said ∷ []) g.more;
 }
 
 next_line : (number : ℕ) (c : Content) → IsPolicy c → (line : List ℕ) (rest : List (List ℕ)) (o : Option Line) → form_of (words line) ≡ o
@@ -132,9 +133,9 @@ next_line number c valid line rest (Some form) is h go = by_words (word_fault fo
     by_place w (Some kind) place h = cc h
     by_place w None place h =
         let f = found line form is w in
-        let t = taken c f.entry valid f.says.valid (ap (place_fault (subjects c)) (sym f.subject) ∙ place) in
+        let t = taken c f.said valid f.says.valid (ap (place_fault (subjects c)) (sym f.subject) ∙ place) in
         let same : subjects c ++ subject_of form ∷ [] ≡ subjects t.policy =
-        ap (λ s. subjects c ++ s ∷ []) f.subject ∙ sym (map_joined entry_subject (entries c) (f.entry ∷ [])) ∙ ap (map entry_subject) (sym t.adds.added) in
+        ap (λ s. subjects c ++ s ∷ []) f.subject ∙ sym (map_joined line_subject (policy_lines c) (f.said ∷ [])) ∙ ap (map line_subject) (sym t.adds.added) in
         grown_by c line form rest f t (go t.policy t.adds.valid (ap (λ l. fault_in (number + 1) l rest) (sym same) ∙ h))
 
     by_words : (w : Option PolicyKind) → word_fault form ≡ w → after number (subjects c) rest form (or_else w (place_fault (subjects c) (subject_of form))) ≡ None → Grown c (line ∷ rest)
@@ -150,7 +151,7 @@ grow [] number c valid line h = record {
   says = [];
   text = tt;
   lines_are = ap (λ l. l ∷ []) (nothing line (at (is_empty line) refl h));
-  added = sym (append-nil (entries c));
+  added = sym (append-nil (policy_lines c));
 }
   where
     at : (b : Bool) → is_empty line ≡ b → cond {A = Option (ℕ × PolicyKind)} b None (Some (number, Form)) ≡ None → is_empty line ≡ true

@@ -1,8 +1,9 @@
 mod Splitting
 mod WordLemmas
-mod EntryLemmas
+mod PolicyLineLemmas
 mod PlaceLemmas
 mod LookupLemmas
+mod KeepLemmas
 mod LineLemmas
 mod ReadLemmas
 mod TextLemmas

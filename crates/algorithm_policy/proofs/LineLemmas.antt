@@ -1,4 +1,4 @@
--- Lines as words, and entries as lines.
+-- Lines as words, and policy_lines as lines.
 use Rattle.std.proofs.Common.{◌≡◌, ℕ, ◌+◌, ◌/◌, ◌%◌, ◌<◌, ◌≤◌, ◌==◌, Bool, true, false, nat_lt, List, [], ◌∷◌, ◌++◌, slice_index, All, Some, None, is_none, suc, Result, cond, refl, ap, ◌∙◌, arith}
 use Rattle.std.specs.Prelude.{codes}
 use Rattle.std.specs.List.{list_all, AllByRecursion}
@@ -11,19 +11,20 @@ use Rattle.std.proofs.lemmas.List.Splits.{slice_split_at, slice_split_none}
 use Rattle.civil_moment.specs.declared.moment.Moment.{Moment}
 use Rattle.civil_moment.specs.Moment.{Text, digits_text, fraction_text}
 use Rattle.civil_moment.proofs.FirstFault.{no_fault}
+use Rattle.hash_kit.specs.Algorithm.{word_of, algorithm_named}
 use Rattle.hash_kit.specs.declared.algorithm.HashAlg.{HashAlg}
 use Rattle.hash_kit.specs.declared.algorithm.HashAlg.TheVariants.{Sha256, Sha384, Sha512}
 use Rattle.hex.specs.Hex.{IsBytes, encode_with, encode_lower, lower_digits}
 use Rattle.hex.proofs.HexLemmas.{decode_of-encode_lower, length-encode_with}
-use Rattle.algorithm_policy.specs.declared.entry.Entry.{Entry}
-use Rattle.algorithm_policy.specs.declared.entry.Entry.TheVariants.{Hash, Authority}
+use Rattle.algorithm_policy.specs.declared.policy_line.PolicyLine.{PolicyLine}
+use Rattle.algorithm_policy.specs.declared.policy_line.PolicyLine.TheVariants.{Hash, Authority}
 use Rattle.algorithm_policy.specs.declared.fault.PolicyKind.TheVariants.{Date}
-use Rattle.algorithm_policy.specs.Words.{word_of, algorithm_named, is_name_byte, is_name, is_lower_digit, is_hex, bytes_of, is_sid, is_key, is_cert, is_time}
+use Rattle.algorithm_policy.specs.Words.{is_name_byte, is_name, is_lower_digit, is_hex, bytes_of, is_sid, is_key, is_cert, is_time}
 use Rattle.algorithm_policy.specs.Text.{joined, LineText}
 use Rattle.algorithm_policy.specs.Fault.{Line, hash, authority, signer, form_of, words, word_fault, subject_of}
-use Rattle.algorithm_policy.specs.Inside.{IsEntry, entry_subject}
+use Rattle.algorithm_policy.specs.Inside.{IsPolicyLine, line_subject}
 use Rattle.algorithm_policy.proofs.PlaceLemmas.{all_joined}
-use Rattle.algorithm_policy.proofs.EntryLemmas.{none_wrong}
+use Rattle.algorithm_policy.proofs.PolicyLineLemmas.{none_wrong}
 
 -- ---- words without a separator
 
@@ -60,7 +61,7 @@ no_feed w (v ∷ ws) h =
     all_joined (λ b. nat_lt 31 b) w (32 ∷ joined (v ∷ ws))
     ∙ and_from _ _ (weaker w h.0) (no_feed v ws h.1)
 
--- ---- the words of an entry are plain
+-- ---- the words of a line are plain
 
 name_byte : (b : ℕ) → is_name_byte b ≡ true → nat_lt 32 b ≡ true
 name_byte b h = lt-ltb 32 b (grind (arith, nat_tests))
@@ -96,10 +97,10 @@ plain_time time moment t =
     ∙ all_joined _ (digits_text t.fields ++ fraction_text t.fraction) (codes "Z")
     ∙ and_from _ _ (all_joined _ (digits_text t.fields) (fraction_text t.fraction) ∙ and_from _ _ (digits_plain t.fields) (fraction_plain t.fraction)) refl
 
--- ---- an entry's line is read as this entry
+-- ---- the line that says this is read as this
 
 -- the words, of the form that is theirs
-abbrev pub form_with : Entry → List ℕ → Line
+abbrev pub form_with : PolicyLine → List ℕ → Line
 form_with (Hash alg end) time = hash alg time
 form_with (Authority s) time = authority s.name (encode_lower s.sid) (encode_lower s.key) (encode_lower s.cert) time
 
@@ -129,14 +130,14 @@ named_again Sha256 = refl
 named_again Sha384 = refl
 named_again Sha512 = refl
 
--- what holds of the line of an entry
-pub record Again (line : List ℕ) (entry : Entry) (time : List ℕ) : Type 0 where
-  pub form : form_of (words line) ≡ Some (form_with entry time)
-  pub sound : word_fault (form_with entry time) ≡ None
-  pub subject : subject_of (form_with entry time) ≡ entry_subject entry
+-- what holds of such a line
+pub record Again (line : List ℕ) (said : PolicyLine) (time : List ℕ) : Type 0 where
+  pub form : form_of (words line) ≡ Some (form_with said time)
+  pub sound : word_fault (form_with said time) ≡ None
+  pub subject : subject_of (form_with said time) ≡ line_subject said
   pub no_feed : list_all (λ b. nat_lt 31 b) line ≡ true
 
-pub again : (line : List ℕ) (entry : Entry) → IsEntry entry → (t : LineText line entry) → Again line entry t.time
+pub again : (line : List ℕ) (said : PolicyLine) → IsPolicyLine said → (t : LineText line said) → Again line said t.time
 again line (Hash alg end) is t =
     let time = t.time in
     let plain : Plain (codes "hash" ∷ word_of alg ∷ time ∷ []) = (refl, (plain_word alg, (plain_time time end t.end, tt))) in

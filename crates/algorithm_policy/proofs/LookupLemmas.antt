@@ -3,19 +3,19 @@ use Rattle.std.proofs.Common.{◌≡◌, subst, ℕ, zero, suc, ◌<◌, Bool, t
 use Rattle.std.specs.List.{list_all, find}
 use Rattle.std.specs.Str.{bytes_eq}
 use Rattle.std.specs.Cmp.{IsTotalOrder}
-use Rattle.std.specs.Ordering.{is_lt, is_le, is_gt, ordering_reverse}
+use Rattle.std.specs.Ordering.{is_lt, is_le, ordering_reverse}
 use Rattle.std.specs.declared.cmp.Ordering.{Ordering}
 use Rattle.std.specs.declared.cmp.Ordering.TheVariants.{Less, Equal, Greater}
 use Rattle.std.proofs.lemmas.Bool.{and_parts, cond-true, cond-false, not-true, not-false, and_left, and_right, false_from_ne_true}
 use Rattle.std.proofs.lemmas.Cmp.{nat_list_cmp_total, nat_cmp_total, int_cmp_total, on_total, then_total}
 use Rattle.std.proofs.lemmas.Slice.Eq.{bytes_eq-Decides}
 use Rattle.civil_moment.specs.declared.moment.Moment.{Moment}
-use Rattle.civil_moment.specs.Moment.{moment_order}
+use Rattle.civil_moment.specs.Moment.{moment_order, is_before}
+use Rattle.hash_kit.specs.Algorithm.{place_of}
 use Rattle.hash_kit.specs.Node.{bytes_cmp}
 use Rattle.hash_kit.specs.declared.algorithm.HashAlg.{HashAlg}
 use Rattle.hash_kit.specs.declared.algorithm.HashAlg.TheVariants.{Sha256, Sha384, Sha512}
 use Rattle.algorithm_policy.specs.declared.signer.Signer.{Signer}
-use Rattle.algorithm_policy.specs.Words.{place_of}
 use Rattle.algorithm_policy.specs.Content.{Content, is_below, all_pairs, hash_end, target}
 use Rattle.algorithm_policy.specs.Inside.{later_of}
 use Rattle.algorithm_policy.proofs.PlaceLemmas.{all_joined}
@@ -77,18 +77,21 @@ moments = then_total (on_total (λ (m : Moment). m.seconds) int_cmp_total) (on_t
 abbrev le : Moment → Moment → Bool
 le a b = is_le (moment_order a b)
 
-reversed : (o p : Ordering) → o ≡ ordering_reverse p → is_gt p ≡ true → is_le o ≡ true
-reversed o Less e h = cc
-reversed o Equal e h = cc
-reversed o Greater e h = ap is_le e
+weaker : (o : Ordering) → is_lt o ≡ true → is_le o ≡ true
+weaker Less h = refl
+weaker Equal h = refl
+weaker Greater h = cc h
 
-le_below : (a b : Moment) → is_gt (moment_order b a) ≡ true → le a b ≡ true
-le_below a b h = reversed _ _ (moments.antisymm a b) h
+le_below : (a b : Moment) → is_before a b ≡ true → le a b ≡ true
+le_below a b h = weaker (moment_order a b) h
 
-gt_not : (o : Ordering) → is_gt o ≡ not (is_le o)
-gt_not Less = refl
-gt_not Equal = refl
-gt_not Greater = refl
+reversed : (o : Ordering) → is_lt (ordering_reverse o) ≡ not (is_le o)
+reversed Less = refl
+reversed Equal = refl
+reversed Greater = refl
+
+before_not : (a b : Moment) → is_before a b ≡ not (le b a)
+before_not a b = ap is_lt (moments.antisymm a b) ∙ reversed (moment_order b a)
 
 le_self : (a : Moment) → le a a ≡ true
 le_self a = at (moment_order a a) refl
@@ -114,14 +117,14 @@ le_along a b c h k = at (moment_order a b) (moment_order b c) refl refl h k
 abbrev pick : Bool → Bool → Bool → HashAlg
 pick x y z = unwrap_or (cond x (Some Sha256) (cond y (Some Sha384) (cond z (Some Sha512) None))) Sha256
 
-keeps_first : (first second : HashAlg) (o : Ordering) → is_le o ≡ true → cond (is_gt o) second first ≡ first
-keeps_first first second o h = cond-false (is_gt o) second first (gt_not o ∙ ap not h)
+keeps_first : (first second : HashAlg) (a b : Moment) → le b a ≡ true → cond (is_before a b) second first ≡ first
+keeps_first first second a b h = cond-false (is_before a b) second first (before_not a b ∙ ap not h)
 
-takes_second : (first second : HashAlg) (o : Ordering) → is_le o ≡ false → cond (is_gt o) second first ≡ second
-takes_second first second o h = cond-true (is_gt o) second first (gt_not o ∙ ap not h)
+takes_second : (first second : HashAlg) (a b : Moment) → le b a ≡ false → cond (is_before a b) second first ≡ second
+takes_second first second a b h = cond-true (is_before a b) second first (before_not a b ∙ ap not h)
 
 above : (a b : Moment) → le b a ≡ false → le a b ≡ true
-above a b h = le_below a b (gt_not (moment_order b a) ∙ ap not h)
+above a b h = le_below a b (before_not a b ∙ ap not h)
 
 pub later_twice : (c : Content) → later_of c (later_of c Sha256 Sha384) Sha512 ≡ target c
 later_twice c = by_first (le b a) refl
@@ -140,35 +143,35 @@ later_twice c = by_first (le b a) refl
 
     after_first : (x : Bool) → le b a ≡ true → le d a ≡ x → later_of c Sha256 Sha512 ≡ chosen
     after_first true ba da =
-        keeps_first Sha256 Sha512 (moment_order d a) da
+        keeps_first Sha256 Sha512 a d da
         ∙ sym (λ i. pick (le_self a i && (ba i && (da i && true))) (le a b && (le b b && (le d b && true))) (le a d && (le b d && (le d d && true))))
     after_first false ba da =
         let db = false_from_ne_true (le d b) (λ h. let e = le_along d b a h ba in cc) in
         let ad = above a d da in
         let none = and_right (le a b) (le b b && (le d b && true)) (and_right (le b b) (le d b && true) (and_left (le d b) true db)) in
-        takes_second Sha256 Sha512 (moment_order d a) da
+        takes_second Sha256 Sha512 a d da
         ∙ sym (λ i. pick (le_self a i && (ba i && (da i && true))) (none i) (ad i && (le_along b a d ba ad i && (le_self d i && true))))
 
     after_second : (x : Bool) → le b a ≡ false → le d b ≡ x → later_of c Sha384 Sha512 ≡ chosen
     after_second true ba db =
         let ab = above a b ba in
-        keeps_first Sha384 Sha512 (moment_order d b) db
+        keeps_first Sha384 Sha512 b d db
         ∙ sym (λ i. pick (le_self a i && (ba i && (le d a && true))) (ab i && (le_self b i && (db i && true))) (le a d && (le b d && (le d d && true))))
     after_second false ba db =
         let ab = above a b ba in
         let bd = above b d db in
-        takes_second Sha384 Sha512 (moment_order d b) db
+        takes_second Sha384 Sha512 b d db
         ∙ sym (λ i. pick (le_self a i && (ba i && (le d a && true))) (ab i && (le_self b i && (db i && true))) (le_along a b d ab bd i && (bd i && (le_self d i && true))))
 
     by_first : (x : Bool) → le b a ≡ x → later_of c (later_of c Sha256 Sha384) Sha512 ≡ target c
-    by_first true ba = ap (λ first. later_of c first Sha512) (keeps_first Sha256 Sha384 (moment_order b a) ba) ∙ after_first (le d a) ba refl
-    by_first false ba = ap (λ first. later_of c first Sha512) (takes_second Sha256 Sha384 (moment_order b a) ba) ∙ after_second (le d b) ba refl
+    by_first true ba = ap (λ first. later_of c first Sha512) (keeps_first Sha256 Sha384 a b ba) ∙ after_first (le d a) ba refl
+    by_first false ba = ap (λ first. later_of c first Sha512) (takes_second Sha256 Sha384 a b ba) ∙ after_second (le d b) ba refl
 
 -- ---- what the target says
 
-later_above : (c : Content) (x y : HashAlg) (g : Bool) → is_gt (moment_order (hash_end c y) (hash_end c x)) ≡ g → (le (hash_end c x) (hash_end c (cond g y x)) ≡ true) × (le (hash_end c y) (hash_end c (cond g y x)) ≡ true)
+later_above : (c : Content) (x y : HashAlg) (g : Bool) → is_before (hash_end c x) (hash_end c y) ≡ g → (le (hash_end c x) (hash_end c (cond g y x)) ≡ true) × (le (hash_end c y) (hash_end c (cond g y x)) ≡ true)
 later_above c x y true h = (le_below (hash_end c x) (hash_end c y) h, le_self (hash_end c y))
-later_above c x y false h = (le_self (hash_end c x), not-false (le (hash_end c y) (hash_end c x)) (sym (gt_not (moment_order (hash_end c y) (hash_end c x))) ∙ h))
+later_above c x y false h = (le_self (hash_end c x), not-false (le (hash_end c y) (hash_end c x)) (sym (before_not (hash_end c x) (hash_end c y)) ∙ h))
 
 abbrev first_two : Content → HashAlg
 first_two c = later_of c Sha256 Sha384
@@ -177,23 +180,18 @@ pub target_last : (c : Content) (alg : HashAlg) → le (hash_end c alg) (hash_en
 target_last c alg = ap (λ t. le (hash_end c alg) (hash_end c t)) (sym (later_twice c)) ∙ at alg
   where
     front : (le (hash_end c Sha256) (hash_end c (first_two c)) ≡ true) × (le (hash_end c Sha384) (hash_end c (first_two c)) ≡ true)
-    front = later_above c Sha256 Sha384 (is_gt (moment_order (hash_end c Sha384) (hash_end c Sha256))) refl
+    front = later_above c Sha256 Sha384 (is_before (hash_end c Sha256) (hash_end c Sha384)) refl
 
     back : (le (hash_end c (first_two c)) (hash_end c (later_of c (first_two c) Sha512)) ≡ true) × (le (hash_end c Sha512) (hash_end c (later_of c (first_two c) Sha512)) ≡ true)
-    back = later_above c (first_two c) Sha512 (is_gt (moment_order (hash_end c Sha512) (hash_end c (first_two c)))) refl
+    back = later_above c (first_two c) Sha512 (is_before (hash_end c (first_two c)) (hash_end c Sha512)) refl
 
     at : (alg : HashAlg) → le (hash_end c alg) (hash_end c (later_of c (first_two c) Sha512)) ≡ true
     at Sha256 = le_along (hash_end c Sha256) (hash_end c (first_two c)) (hash_end c (later_of c (first_two c) Sha512)) front.0 back.0
     at Sha384 = le_along (hash_end c Sha384) (hash_end c (first_two c)) (hash_end c (later_of c (first_two c) Sha512)) front.1 back.0
     at Sha512 = back.1
 
-greater : (o : Ordering) → is_gt o ≡ true → o ≡ Greater
-greater Less h = cc h
-greater Equal h = cc h
-greater Greater h = refl
-
-less_than : (a b : Moment) → is_gt (moment_order b a) ≡ true → moment_order a b ≡ Less
-less_than a b h = moments.antisymm a b ∙ ap ordering_reverse (greater (moment_order b a) h)
+less_than : (a b : Moment) → is_before a b ≡ true → moment_order a b ≡ Less
+less_than a b h = less (moment_order a b) h
 
 less_along : (a b c : Moment) → le a b ≡ true → moment_order b c ≡ Less → moment_order a c ≡ Less
 less_along a b c h k = at (moment_order a b) refl h
@@ -207,7 +205,7 @@ less_along a b c h k = at (moment_order a b) refl h
 abbrev Firsts : Content → HashAlg → Type 0
 Firsts c l = (alg : HashAlg) → place_of alg < place_of l → moment_order (hash_end c alg) (hash_end c l) ≡ Less
 
-first_of_two : (c : Content) (g : Bool) → is_gt (moment_order (hash_end c Sha384) (hash_end c Sha256)) ≡ g → Firsts c (cond g Sha384 Sha256)
+first_of_two : (c : Content) (g : Bool) → is_before (hash_end c Sha256) (hash_end c Sha384) ≡ g → Firsts c (cond g Sha384 Sha256)
 first_of_two c true h Sha256 lt = less_than (hash_end c Sha256) (hash_end c Sha384) h
 first_of_two c true h Sha384 lt = absurd (omega arith)
 first_of_two c true h Sha512 lt = absurd (omega arith)
@@ -215,7 +213,7 @@ first_of_two c false h Sha256 lt = absurd (omega arith)
 first_of_two c false h Sha384 lt = absurd (omega arith)
 first_of_two c false h Sha512 lt = absurd (omega arith)
 
-first_of_three : (c : Content) (l : HashAlg) (g : Bool) → is_gt (moment_order (hash_end c Sha512) (hash_end c l)) ≡ g → (le (hash_end c Sha256) (hash_end c l) ≡ true) × (le (hash_end c Sha384) (hash_end c l) ≡ true) → Firsts c l → Firsts c (cond g Sha512 l)
+first_of_three : (c : Content) (l : HashAlg) (g : Bool) → is_before (hash_end c l) (hash_end c Sha512) ≡ g → (le (hash_end c Sha256) (hash_end c l) ≡ true) × (le (hash_end c Sha384) (hash_end c l) ≡ true) → Firsts c l → Firsts c (cond g Sha512 l)
 first_of_three c l true h below before Sha256 lt = less_along (hash_end c Sha256) (hash_end c l) (hash_end c Sha512) below.0 (less_than (hash_end c l) (hash_end c Sha512) h)
 first_of_three c l true h below before Sha384 lt = less_along (hash_end c Sha384) (hash_end c l) (hash_end c Sha512) below.1 (less_than (hash_end c l) (hash_end c Sha512) h)
 first_of_three c l true h below before Sha512 lt = absurd (omega arith)
@@ -223,7 +221,7 @@ first_of_three c l false h below before alg lt = before alg lt
 
 pub target_first : (c : Content) → Firsts c (target c)
 target_first c =
-    let one = is_gt (moment_order (hash_end c Sha384) (hash_end c Sha256)) in
-    let two = is_gt (moment_order (hash_end c Sha512) (hash_end c (first_two c))) in
+    let one = is_before (hash_end c Sha256) (hash_end c Sha384) in
+    let two = is_before (hash_end c (first_two c)) (hash_end c Sha512) in
     let P : HashAlg → Type 0 = λ t. Firsts c t in
     subst P (later_twice c) (first_of_three c (first_two c) two refl (later_above c Sha256 Sha384 one refl) (first_of_two c one refl))

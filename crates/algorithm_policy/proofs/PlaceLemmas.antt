@@ -1,5 +1,5 @@
 -- Entries in their places, and what stands before them.
-use Rattle.std.proofs.Common.{◌≡◌, ◌≤◌, ℕ, ◌+◌, Bool, true, false, not, ◌&&◌, ◌||◌, cond, nat_le, List, [], ◌∷◌, ◌++◌, length, suc, map, Option, Some, None, refl, sym, ap, ◌∙◌, arith, append_assoc, length-append, count_by, add_comm, add-one}
+use Rattle.std.proofs.Common.{◌≡◌, ◌≤◌, ℕ, ◌+◌, Bool, true, false, not, ◌&&◌, ◌||◌, cond, nat_le, List, [], ◌∷◌, ◌++◌, length, suc, map, Option, Some, None, Result, Ok, Err, IfErr, refl, sym, ap, ◌∙◌, arith, append_assoc, length-append, count_by, add_comm, add-one}
 use Rattle.std.specs.List.{list_all, list_any, AllByRecursion}
 use Rattle.std.specs.Str.{bytes_eq}
 use Rattle.std.proofs.lemmas.List.Recursion.{is_count_by}
@@ -8,12 +8,15 @@ use Rattle.civil_moment.specs.declared.moment.Moment.{Moment}
 use Rattle.hash_kit.specs.declared.algorithm.HashAlg.{HashAlg}
 use Rattle.hash_kit.specs.declared.algorithm.HashAlg.TheVariants.{Sha256, Sha384, Sha512}
 use Rattle.algorithm_policy.specs.declared.signer.Signer.{Signer}
-use Rattle.algorithm_policy.specs.declared.entry.Entry.TheVariants.{Hash, Authority}
+use Rattle.algorithm_policy.specs.declared.policy_line.PolicyLine.TheVariants.{Hash, Authority}
+use Rattle.algorithm_policy.specs.declared.fault.PolicyKind.{PolicyKind}
 use Rattle.algorithm_policy.specs.declared.fault.PolicyKind.TheVariants.{Order, Twice, TooMany}
+use Rattle.algorithm_policy.specs.declared.fault.LineFault.{LineFault}
 use Rattle.algorithm_policy.specs.Content.{Content, IsSigner, IsPolicy, is_below, all_pairs}
-use Rattle.algorithm_policy.specs.Text.{named, entries}
+use Rattle.algorithm_policy.specs.Text.{named, policy_lines}
 use Rattle.algorithm_policy.specs.Fault.{Subject, algorithm, signer, may_follow, share_sid, is_signer, place_fault}
-use Rattle.algorithm_policy.specs.Inside.{entry_subject, subjects, is_nil, names_later, names_from, with_end, with_signer, hash_fault, signer_fault, MayCome, Adds}
+use Rattle.algorithm_policy.specs.Change.{with_end, with_signer, signer_fault, refusal}
+use Rattle.algorithm_policy.specs.Inside.{Blames, line_subject, subjects, is_nil, names_later, names_from, hash_fault, MayCome, Adds}
 
 -- ---- lists
 
@@ -50,19 +53,19 @@ about s = signer s.name s.sid
 abbrev pub algs : Content → List HashAlg
 algs c = one Sha256 c.sha256 ++ one Sha384 c.sha384 ++ one Sha512 c.sha512
 
-about_named : (alg : HashAlg) (end : Option Moment) → map entry_subject (named alg end) ≡ map algorithm (one alg end)
+about_named : (alg : HashAlg) (end : Option Moment) → map line_subject (named alg end) ≡ map algorithm (one alg end)
 about_named alg None = refl
 about_named alg (Some end) = refl
 
-about_signers : (l : List Signer) → map entry_subject (map Authority l) ≡ map about l
+about_signers : (l : List Signer) → map line_subject (map Authority l) ≡ map about l
 about_signers [] = refl
 about_signers (s ∷ l) = ap (λ t. about s ∷ t) (about_signers l)
 
 pub subjects_are : (c : Content) → subjects c ≡ map algorithm (algs c) ++ map about c.signers
 subjects_are c =
-    map_joined entry_subject ((named Sha256 c.sha256 ++ named Sha384 c.sha384) ++ named Sha512 c.sha512) (map Authority c.signers)
-    ∙ (λ i. (map_joined entry_subject (named Sha256 c.sha256 ++ named Sha384 c.sha384) (named Sha512 c.sha512)
-    ∙ (λ j. map_joined entry_subject (named Sha256 c.sha256) (named Sha384 c.sha384) j ++ map entry_subject (named Sha512 c.sha512))
+    map_joined line_subject ((named Sha256 c.sha256 ++ named Sha384 c.sha384) ++ named Sha512 c.sha512) (map Authority c.signers)
+    ∙ (λ i. (map_joined line_subject (named Sha256 c.sha256 ++ named Sha384 c.sha384) (named Sha512 c.sha512)
+    ∙ (λ j. map_joined line_subject (named Sha256 c.sha256) (named Sha384 c.sha384) j ++ map line_subject (named Sha512 c.sha512))
     ∙ (λ j. (about_named Sha256 c.sha256 j ++ about_named Sha384 c.sha384 j) ++ about_named Sha512 c.sha512 j)
     ∙ (λ j. sym (map_joined algorithm (one Sha256 c.sha256) (one Sha384 c.sha384)) j ++ map algorithm (one Sha512 c.sha512))
     ∙ sym (map_joined algorithm (one Sha256 c.sha256 ++ one Sha384 c.sha384) (one Sha512 c.sha512))) i ++ about_signers c.signers i)
@@ -126,9 +129,9 @@ hash_place c alg = by_tests _ _ _ (follows c alg) (none_shares alg (subjects c))
     by_tests a b true ha hb = rw ha refl
     by_tests a b false ha hb = rw (ha, hb) refl
 
--- one entry more
+-- one line more
 more : (alg : HashAlg) (a b d : Option Moment) (l : List Signer) (end : Moment) → names_from (record { sha256 = a; sha384 = b; sha512 = d; signers = l }) alg ≡ false
-    → entries (with_end (record { sha256 = a; sha384 = b; sha512 = d; signers = l }) alg end) ≡ entries (record { sha256 = a; sha384 = b; sha512 = d; signers = l }) ++ Hash alg end ∷ []
+    → policy_lines (with_end (record { sha256 = a; sha384 = b; sha512 = d; signers = l }) alg end) ≡ policy_lines (record { sha256 = a; sha384 = b; sha512 = d; signers = l }) ++ Hash alg end ∷ []
 more Sha256 None None None [] end h = refl
 more Sha256 None None None (s ∷ l) end h = cc h
 more Sha256 None None (Some z) l end h = cc h
@@ -151,7 +154,7 @@ pub adds_hash : (c d : Content) (alg : HashAlg) (end : Moment) → d ≡ with_en
 adds_hash c d alg end is valid free =
     record {
       valid = valid;
-      added = ap entries is ∙ more alg c.sha256 c.sha384 c.sha512 c.signers end free;
+      added = ap policy_lines is ∙ more alg c.sha256 c.sha384 c.sha512 c.signers end free;
       placed = hash_place c alg ∙ ap (λ b. cond b (Some Order) None) free;
     }
 
@@ -231,13 +234,13 @@ adds_signer c d s is h =
     let front = (named Sha256 c.sha256 ++ named Sha384 c.sha384) ++ named Sha512 c.sha512 in
     record {
       valid = rw is (valid_signer c s h);
-      added = ap entries is ∙ ap (λ l. front ++ l) (map_joined Authority c.signers (s ∷ [])) ∙ sym (append_assoc front (map Authority c.signers) (Authority s ∷ []));
+      added = ap policy_lines is ∙ ap (λ l. front ++ l) (map_joined Authority c.signers (s ∷ [])) ∙ sym (append_assoc front (map Authority c.signers) (Authority s ∷ []));
       placed =
           signer_place c s.name s.sid
           ∙ (λ i. cond (not (h.below i)) (Some Order) (cond (h.new i) (Some Twice) (cond (lt-leb 64 (length c.signers) h.few i) (Some TooMany) None)));
     }
 
--- ---- how many entries there are
+-- ---- how many policy_lines there are
 
 at_most_one : (alg : HashAlg) (end : Option Moment) → length (named alg end) ≤ 1
 at_most_one alg None = omega arith
@@ -247,10 +250,20 @@ as_many : (l : List Signer) → length (map Authority l) ≡ length l
 as_many [] = refl
 as_many (s ∷ l) = ap suc (as_many l)
 
-pub few_entries : (c : Content) → IsPolicy c → length (entries c) ≤ 67
-few_entries c valid =
+pub few_lines : (c : Content) → IsPolicy c → length (policy_lines c) ≤ 67
+few_lines c valid =
     let few = valid.few in
     let a = named Sha256 c.sha256 in
     let b = named Sha384 c.sha384 in
     let d = named Sha512 c.sha512 in
     omega (arith, length-append ((a ++ b) ++ d) (map Authority c.signers), length-append (a ++ b) d, length-append a b, at_most_one Sha256 c.sha256, at_most_one Sha384 c.sha384, at_most_one Sha512 c.sha512, as_many c.signers, few)
+
+-- ---- what is answered for an authority that is kept out
+
+pub blamed : (r : Result (Unit {0}) LineFault) (fault : Option PolicyKind) → IfErr r (λ f. f ≡ refusal fault) → IfErr r (λ f. Blames f fault)
+blamed (Ok x) fault h = tt
+blamed (Err f) fault h = rw h (refused fault)
+  where
+    refused : (fault : Option PolicyKind) → Blames (refusal fault) fault
+    refused None = tt
+    refused (Some kind) = refl

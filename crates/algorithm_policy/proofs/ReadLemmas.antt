@@ -3,15 +3,15 @@ use Rattle.std.proofs.Common.{◌≡◌, ℕ, ◌+◌, ◌<◌, ◌==◌, true, 
 use Rattle.std.specs.Str.{bytes_eq}
 use Rattle.std.proofs.lemmas.Bool.{eqb-true}
 use Rattle.std.proofs.lemmas.Slice.Eq.{bytes_eq-Decides}
-use Rattle.algorithm_policy.specs.declared.entry.Entry.{Entry}
+use Rattle.algorithm_policy.specs.declared.policy_line.PolicyLine.{PolicyLine}
 use Rattle.algorithm_policy.specs.declared.fault.PolicyKind.{PolicyKind}
 use Rattle.algorithm_policy.specs.declared.fault.PolicyKind.TheVariants.{Header, Form}
 use Rattle.algorithm_policy.specs.declared.fault.LineFault.{LineFault}
 use Rattle.algorithm_policy.specs.declared.fault.LineFault.TheVariants.{Is, Memory}
 use Rattle.algorithm_policy.specs.Content.{Content, empty}
-use Rattle.algorithm_policy.specs.Text.{PolicyText, LinesText, entries, ended, header}
+use Rattle.algorithm_policy.specs.Text.{PolicyText, LinesText, policy_lines, ended, header}
 use Rattle.algorithm_policy.specs.Fault.{Line, form_of, words, parts, word_fault, place_fault, line_fault, or_else, subject_of, Subject, fault_in, fault_of_lines, first_fault}
-use Rattle.algorithm_policy.specs.Inside.{Blames, BlamesFirst, Names, fault_at, own_fault, entry_fault, entry_subject, subjects, SaysEntry, Adds, TakesLine, ReadSoFar, SayPolicy, IsBehindHeader}
+use Rattle.algorithm_policy.specs.Inside.{Blames, BlamesFirst, Names, fault_at, own_fault, next_fault, line_subject, subjects, SaysLine, Adds, TakesLine, ReadSoFar, SayPolicy, IsBehindHeader}
 use Rattle.algorithm_policy.proofs.Splitting.{some_part}
 use Rattle.algorithm_policy.proofs.PlaceLemmas.{map_joined}
 
@@ -67,19 +67,19 @@ sound_goes number before rest found sound o place =
     ap (λ w. elim (or_else w (place_fault before (subject_of found))) as (λ _. Option (ℕ × PolicyKind)) [ Some k ↦ Some (number, k) | None ↦ fault_in (number + 1) (before ++ subject_of found ∷ []) rest ]) sound
     ∙ ap (λ w. elim w as (λ _. Option (ℕ × PolicyKind)) [ Some k ↦ Some (number, k) | None ↦ fault_in (number + 1) (before ++ subject_of found ∷ []) rest ]) place
 
-pub place_blames : (f : LineFault) (policy : Content) (entry : Entry) (left line after : List ℕ) → parts 10 left ≡ line ∷ parts 10 after → SaysEntry line entry → Blames f (entry_fault policy entry) → BlamesFirst f (subjects policy) left
-place_blames Memory policy entry left line after h says b = λ number. tt
-place_blames (Is kind) policy entry left line after h says b = λ number.
+pub place_blames : (f : LineFault) (policy : Content) (said : PolicyLine) (left line after : List ℕ) → parts 10 left ≡ line ∷ parts 10 after → SaysLine line said → Blames f (next_fault policy said) → BlamesFirst f (subjects policy) left
+place_blames Memory policy said left line after h says b = λ number. tt
+place_blames (Is kind) policy said left line after h says b = λ number.
     step number (subjects policy) left line after h
     ∙ ap (goes number (subjects policy) (parts 10 after)) says.is
     ∙ sound_goes number (subjects policy) (parts 10 after) says.form says.sound (Some kind) (ap (place_fault (subjects policy)) says.subject ∙ b)
 
-pub takes_line : (old new : Content) (entry : Entry) (left line after : List ℕ) → left ≡ line ++ 10 ∷ after → parts 10 left ≡ line ∷ parts 10 after → SaysEntry line entry → Adds old new entry → TakesLine old new left after
-takes_line old new entry left line after whole h says adds =
+pub takes_line : (old new : Content) (said : PolicyLine) (left line after : List ℕ) → left ≡ line ++ 10 ∷ after → parts 10 left ≡ line ∷ parts 10 after → SaysLine line said → Adds old new said → TakesLine old new left after
+takes_line old new said left line after whole h says adds =
     record {
       valid = adds.valid;
       line = line;
-      entry = entry;
+      said = said;
       spelled = whole;
       text = says.text;
       added = adds.added;
@@ -88,7 +88,7 @@ takes_line old new entry left line after whole h says adds =
           ∙ ap (goes number (subjects old) (parts 10 after)) says.is
           ∙ sound_goes number (subjects old) (parts 10 after) says.form says.sound None (ap (place_fault (subjects old)) says.subject ∙ adds.placed)
           ∙ ap (λ l. fault_in (number + 1) l (parts 10 after))
-          (ap (λ s. subjects old ++ s ∷ []) says.subject ∙ sym (map_joined entry_subject (entries old) (entry ∷ [])) ∙ ap (map entry_subject) (sym adds.added));
+          (ap (λ s. subjects old ++ s ∷ []) says.subject ∙ sym (map_joined line_subject (policy_lines old) (said ∷ [])) ∙ ap (map line_subject) (sym adds.added));
     }
 
 -- ---- line after line
@@ -97,7 +97,7 @@ pub ended_joined : (a b : List (List ℕ)) → ended (a ++ b) ≡ ended a ++ end
 ended_joined [] b = refl
 ended_joined (line ∷ a) b = ap (λ l. line ++ 10 ∷ l) (ended_joined a b) ∙ sym (append_assoc line (10 ∷ ended a) (ended b))
 
-pub lines_joined : (a b : List (List ℕ)) (es fs : List Entry) → LinesText a es → LinesText b fs → LinesText (a ++ b) (es ++ fs)
+pub lines_joined : (a b : List (List ℕ)) (es fs : List PolicyLine) → LinesText a es → LinesText b fs → LinesText (a ++ b) (es ++ fs)
 lines_joined [] b [] fs h k = k
 lines_joined [] b (e ∷ es) fs h k = absurd h
 lines_joined (line ∷ a) b [] fs h k = absurd h
@@ -117,11 +117,11 @@ pub goes_on : (text left after : List ℕ) (number : ℕ) (old new : Content) �
 goes_on text left after number old new h t = record {
   valid = t.valid;
   lines = h.lines ++ t.line ∷ [];
-  say = rw t.added (lines_joined h.lines (t.line ∷ []) (entries old) (t.entry ∷ []) h.say (t.text, tt));
+  say = rw t.added (lines_joined h.lines (t.line ∷ []) (policy_lines old) (t.said ∷ []) h.say (t.text, tt));
   front =
       h.front ∙ ap (λ l. ended h.lines ++ l) (t.spelled ∙ regroup t.line after) ∙ sym (append_assoc (ended h.lines) (t.line ++ 10 ∷ []) after)
       ∙ ap (λ l. l ++ after) (sym (ended_joined h.lines (t.line ∷ [])));
-  counted = let n = h.counted in omega (arith, ap length t.added, length-append (entries old) (t.entry ∷ []), n);
+  counted = let n = h.counted in omega (arith, ap length t.added, length-append (policy_lines old) (t.said ∷ []), n);
   faults = h.faults ∙ t.faults number;
 }
   where

@@ -1,12 +1,12 @@
 -- Values that the format's rules give, so that a wrong definition does not check.
 use Rattle.std.proofs.Common.{◌≡◌, ℕ, List, [], ◌∷◌, ◌++◌, map, replicate, true, false, Some, None, refl}
 use Rattle.std.specs.Prelude.{codes}
-use Rattle.hash_kit.specs.declared.algorithm.HashAlg.TheVariants.{Sha256, Sha384, Sha512}
+use Rattle.hash_kit.specs.declared.algorithm.HashAlg.TheVariants.{Sha512}
 use Rattle.der_values.specs.Value.{extra}
 use Rattle.der_values.specs.Next.{next_of, value_at, length_at, long_length_at}
 use Rattle.hex.specs.Hex.{decode_pairs, encode_with, encode_lower}
 use Rattle.algorithm_policy.specs.declared.fault.PolicyKind.TheVariants.{Header, Form, Name, Hex, Sid, Key, Date, Order}
-use Rattle.algorithm_policy.specs.Words.{algorithm_named, is_name, is_hex, is_sid, is_key, is_time, bytes_of}
+use Rattle.algorithm_policy.specs.Words.{is_name, is_hex, is_sid, is_key, is_time, bytes_of}
 use Rattle.algorithm_policy.specs.Content.{is_below}
 use Rattle.algorithm_policy.specs.Text.{ended, header, hash_line}
 use Rattle.algorithm_policy.specs.Fault.{fault_in, fault_of_lines, first_fault}
@@ -76,6 +76,3 @@ hexadecimal = (refl, refl)
 
 spelled : hash_line Sha512 (codes "20600101000000Z") ≡ codes "hash sha512 20600101000000Z"
 spelled = refl
-
-algorithms_named : map algorithm_named (codes "sha256" ∷ codes "sha384" ∷ codes "sha512" ∷ codes "SHA256" ∷ codes "sha1" ∷ []) ≡ Some Sha256 ∷ Some Sha384 ∷ Some Sha512 ∷ None ∷ None ∷ []
-algorithms_named = refl

@@ -12,17 +12,17 @@ use Rattle.hash_kit.specs.declared.algorithm.HashAlg.{HashAlg}
 use Rattle.hash_kit.specs.declared.algorithm.HashAlg.TheVariants.{Sha256, Sha384, Sha512}
 use Rattle.hex.specs.Hex.{IsBytes, encode_lower}
 use Rattle.algorithm_policy.specs.declared.signer.Signer.{Signer}
-use Rattle.algorithm_policy.specs.declared.entry.Entry.{Entry}
-use Rattle.algorithm_policy.specs.declared.entry.Entry.TheVariants.{Hash, Authority}
+use Rattle.algorithm_policy.specs.declared.policy_line.PolicyLine.{PolicyLine}
+use Rattle.algorithm_policy.specs.declared.policy_line.PolicyLine.TheVariants.{Hash, Authority}
 use Rattle.algorithm_policy.specs.declared.fault.PolicyKind.{PolicyKind}
 use Rattle.algorithm_policy.specs.declared.fault.PolicyKind.TheVariants.{Order, Twice, TooMany}
 use Rattle.algorithm_policy.specs.declared.fault.PolicyFault.{PolicyFault}
 use Rattle.algorithm_policy.specs.declared.fault.PolicyFault.TheVariants.{At, Memory}
 use Rattle.algorithm_policy.specs.Words.{bytes_of}
 use Rattle.algorithm_policy.specs.Content.{Content, IsSigner, IsPolicy, is_below, all_pairs}
-use Rattle.algorithm_policy.specs.Text.{header, ended, end_of, line_of, LineText, LinesText, named, entries, PolicyText}
+use Rattle.algorithm_policy.specs.Text.{header, ended, end_of, line_of, LineText, LinesText, named, policy_lines, PolicyText}
 use Rattle.algorithm_policy.specs.Fault.{parts, place_fault, Subject, algorithm, fault_in, fault_of_lines, first_fault}
-use Rattle.algorithm_policy.specs.Inside.{Names, IsEntry, entry_subject, subjects}
+use Rattle.algorithm_policy.specs.Inside.{Names, IsPolicyLine, line_subject, subjects}
 use Rattle.algorithm_policy.proofs.PlaceLemmas.{map_joined, one, about, subjects_are, signer_after}
 use Rattle.algorithm_policy.proofs.Splitting.{some_part}
 use Rattle.algorithm_policy.proofs.LineLemmas.{form_with, again, none_at, bytes_again}
@@ -33,14 +33,14 @@ use Rattle.algorithm_policy.proofs.ReadLemmas.{step, sound_goes, goes}
 first_line : (line rest : List ℕ) → list_all (λ b. nat_lt 31 b) line ≡ true → parts 10 (line ++ 10 ∷ rest) ≡ line ∷ parts 10 rest
 first_line line rest h = slice_split_at (λ b. b == 10) line 10 rest (none_at 31 10 line (omega arith) h) refl
 
-entries_valid : (l : List Signer) → AllByRecursion IsSigner l → AllByRecursion IsEntry (map Authority l)
+entries_valid : (l : List Signer) → AllByRecursion IsSigner l → AllByRecursion IsPolicyLine (map Authority l)
 entries_valid [] h = tt
 entries_valid (s ∷ l) h = (h.0, entries_valid l h.1)
 
-pub all_valid : (c : Content) → IsPolicy c → AllByRecursion IsEntry (entries c)
+pub all_valid : (c : Content) → IsPolicy c → AllByRecursion IsPolicyLine (policy_lines c)
 all_valid c valid = by_ends c.sha256 c.sha384 c.sha512 (entries_valid c.signers valid.signers)
   where
-    by_ends : (a b d : Option Moment) → AllByRecursion IsEntry (map Authority c.signers) → AllByRecursion IsEntry (named Sha256 a ++ named Sha384 b ++ named Sha512 d ++ map Authority c.signers)
+    by_ends : (a b d : Option Moment) → AllByRecursion IsPolicyLine (map Authority c.signers) → AllByRecursion IsPolicyLine (named Sha256 a ++ named Sha384 b ++ named Sha512 d ++ map Authority c.signers)
     by_ends None None None h = h
     by_ends None None (Some z) h = (tt, h)
     by_ends None (Some y) None h = (tt, h)
@@ -50,14 +50,14 @@ all_valid c valid = by_ends c.sha256 c.sha384 c.sha512 (entries_valid c.signers 
     by_ends (Some x) (Some y) None h = (tt, (tt, h))
     by_ends (Some x) (Some y) (Some z) h = (tt, (tt, (tt, h)))
 
-pub split_lines : (lines : List (List ℕ)) (es : List Entry) → LinesText lines es → AllByRecursion IsEntry es → parts 10 (ended lines) ≡ lines ++ [] ∷ []
+pub split_lines : (lines : List (List ℕ)) (es : List PolicyLine) → LinesText lines es → AllByRecursion IsPolicyLine es → parts 10 (ended lines) ≡ lines ++ [] ∷ []
 split_lines [] [] h k = refl
 split_lines [] (e ∷ es) h k = absurd h
 split_lines (line ∷ lines) [] h k = absurd h
 split_lines (line ∷ lines) (e ∷ es) h k =
     first_line line (ended lines) (again line e k.0 h.0).no_feed ∙ ap (λ l. line ∷ l) (split_lines lines es h.1 k.1)
 
--- ---- each entry is in its place
+-- ---- each said is in its place
 
 -- nothing is wrong with the place of any of them, one after the other
 abbrev Placed : List Subject → List Subject → Type 0
@@ -113,7 +113,7 @@ all_placed c valid =
 
 -- ---- a text of a policy has no fault
 
-lines_sound : (number : ℕ) (before : List Subject) (lines : List (List ℕ)) (es : List Entry) → LinesText lines es → AllByRecursion IsEntry es → Placed before (map entry_subject es)
+lines_sound : (number : ℕ) (before : List Subject) (lines : List (List ℕ)) (es : List PolicyLine) → LinesText lines es → AllByRecursion IsPolicyLine es → Placed before (map line_subject es)
     → fault_in number before (parts 10 (ended lines)) ≡ None
 unfolding fault_in
 lines_sound number before [] [] h k p = refl
@@ -125,7 +125,7 @@ lines_sound number before (line ∷ lines) (e ∷ es) h k p =
     ∙ ap (goes number before (parts 10 (ended lines))) a.form
     ∙ sound_goes number before (parts 10 (ended lines)) (form_with e h.0.time) a.sound None (ap (place_fault before) a.subject ∙ p.0)
     ∙ ap (λ s. fault_in (number + 1) (before ++ s ∷ []) (parts 10 (ended lines))) a.subject
-    ∙ lines_sound (number + 1) (before ++ entry_subject e ∷ []) lines es h.1 k.1 p.1
+    ∙ lines_sound (number + 1) (before ++ line_subject e ∷ []) lines es h.1 k.1 p.1
 
 pub no_fault : (text : List ℕ) (c : Content) → PolicyText text c → first_fault text ≡ None
 unfolding fault_of_lines
@@ -135,7 +135,7 @@ no_fault text c t =
     ap first_fault t.spelled
     ∙ ap fault_of_lines (first_line header (ended t.lines) refl ∙ ap (λ l. header ∷ l) rest.is)
     ∙ ap (fault_in 2 []) (sym rest.is)
-    ∙ lines_sound 2 [] t.lines (entries c) t.say valid (all_placed c t.valid)
+    ∙ lines_sound 2 [] t.lines (policy_lines c) t.say valid (all_placed c t.valid)
 
 -- ---- no text is two policies
 
@@ -148,7 +148,7 @@ some_is a b e = cc
 same_signer : (s r : Signer) → s.name ≡ r.name → s.sid ≡ r.sid → s.key ≡ r.key → s.cert ≡ r.cert → s.end ≡ r.end → s ≡ r
 same_signer s r a b d e f i = record { name = a i; sid = b i; key = d i; cert = e i; end = f i }
 
-one_entry : (e f : Entry) (t u : List ℕ) → IsEntry e → IsEntry f → Text t (end_of e) → Text u (end_of f) → form_with e t ≡ form_with f u → e ≡ f
+one_entry : (e f : PolicyLine) (t u : List ℕ) → IsPolicyLine e → IsPolicyLine f → Text t (end_of e) → Text u (end_of f) → form_with e t ≡ form_with f u → e ≡ f
 one_entry (Hash a x) (Hash b y) t u h k p q e =
     let alg : a ≡ b = cc in
     let time : t ≡ u = cc in
@@ -165,11 +165,11 @@ one_entry (Authority s) (Authority r) t u h k p q e =
     ap Authority (same_signer s r name (same_bytes s.sid r.sid h.sid_bytes k.sid_bytes sid) (same_bytes s.key r.key h.key_bytes k.key_bytes key) (same_bytes s.cert r.cert h.cert_bytes k.cert_bytes cert)
     (one_moment u s.end r.end (rw (← time) p) q))
 
-same_entry : (line : List ℕ) (e f : Entry) → IsEntry e → IsEntry f → LineText line e → LineText line f → e ≡ f
+same_entry : (line : List ℕ) (e f : PolicyLine) → IsPolicyLine e → IsPolicyLine f → LineText line e → LineText line f → e ≡ f
 same_entry line e f h k p q =
     one_entry e f p.time q.time h k p.end q.end (some_is _ _ (sym (again line e h p).form ∙ (again line f k q).form))
 
-same_entries : (lines : List (List ℕ)) (es fs : List Entry) → AllByRecursion IsEntry es → AllByRecursion IsEntry fs → LinesText lines es → LinesText lines fs → es ≡ fs
+same_entries : (lines : List (List ℕ)) (es fs : List PolicyLine) → AllByRecursion IsPolicyLine es → AllByRecursion IsPolicyLine fs → LinesText lines es → LinesText lines fs → es ≡ fs
 same_entries [] [] [] h k p q = refl
 same_entries [] [] (f ∷ fs) h k p q = absurd q
 same_entries [] (e ∷ es) fs h k p q = absurd p
@@ -188,15 +188,15 @@ last_away [] = refl
 last_away (x ∷ []) = refl
 last_away (x ∷ y ∷ more) = ap (λ l. x ∷ l) (last_away (y ∷ more))
 
--- what the entries say of each part
-end_in : HashAlg → List Entry → Option Moment
+-- what the policy_lines say of each part
+end_in : HashAlg → List PolicyLine → Option Moment
 end_in Sha256 (Hash Sha256 end ∷ es) = Some end
 end_in Sha384 (Hash Sha384 end ∷ es) = Some end
 end_in Sha512 (Hash Sha512 end ∷ es) = Some end
 end_in alg (e ∷ es) = end_in alg es
 end_in alg [] = None
 
-signers_in : List Entry → List Signer
+signers_in : List PolicyLine → List Signer
 signers_in [] = []
 signers_in (Hash alg end ∷ es) = signers_in es
 signers_in (Authority s ∷ es) = s ∷ signers_in es
@@ -215,7 +215,7 @@ unfolding signers_in
 signers_are [] = refl
 signers_are (s ∷ l) = ap (λ t. s ∷ t) (signers_are l)
 
-record Parts (es : List Entry) (a b d : Option Moment) (l : List Signer) : Type 0 where
+record Parts (es : List PolicyLine) (a b d : Option Moment) (l : List Signer) : Type 0 where
   first : end_in Sha256 es ≡ a
   second : end_in Sha384 es ≡ b
   third : end_in Sha512 es ≡ d
@@ -232,7 +232,7 @@ parts_are (Some x) None (Some z) l = record { first = refl; second = no_end Sha3
 parts_are (Some x) (Some y) None l = record { first = refl; second = refl; third = no_end Sha512 l; rest = signers_are l }
 parts_are (Some x) (Some y) (Some z) l = record { first = refl; second = refl; third = refl; rest = signers_are l }
 
-same_content : (c d : Content) → entries c ≡ entries d → c ≡ d
+same_content : (c d : Content) → policy_lines c ≡ policy_lines d → c ≡ d
 same_content c d e i =
     let p = parts_are c.sha256 c.sha384 c.sha512 c.signers in
     let q = parts_are d.sha256 d.sha384 d.sha512 d.signers in
@@ -244,7 +244,7 @@ same_content c d e i =
     }
 
 all_lines : (text : List ℕ) (c : Content) → (t : PolicyText text c) → parts 10 text ≡ header ∷ t.lines ++ [] ∷ []
-all_lines text c t = ap (parts 10) t.spelled ∙ first_line header (ended t.lines) refl ∙ ap (λ l. header ∷ l) (split_lines t.lines (entries c) t.say (all_valid c t.valid))
+all_lines text c t = ap (parts 10) t.spelled ∙ first_line header (ended t.lines) refl ∙ ap (λ l. header ∷ l) (split_lines t.lines (policy_lines c) t.say (all_valid c t.valid))
 
 behind : List (List ℕ) → List (List ℕ)
 behind [] = []
@@ -257,15 +257,15 @@ lines_behind text c t = ap behind (all_lines text c t) ∙ last_away t.lines
 pub one_policy : (text : List ℕ) (c d : Content) → PolicyText text c → PolicyText text d → c ≡ d
 one_policy text c d t u =
     let lines = sym (lines_behind text c t) ∙ lines_behind text d u in
-    let P : List (List ℕ) → Type 0 = λ l. LinesText l (entries c) in
-    same_content c d (same_entries u.lines (entries c) (entries d) (all_valid c t.valid) (all_valid d u.valid) (subst P lines t.say) u.say)
+    let P : List (List ℕ) → Type 0 = λ l. LinesText l (policy_lines c) in
+    same_content c d (same_entries u.lines (policy_lines c) (policy_lines d) (all_valid c t.valid) (all_valid d u.valid) (subst P lines t.say) u.say)
 
 -- ---- no policy is two texts
 
-same_line : (a b : List ℕ) (e : Entry) → LineText a e → LineText b e → a ≡ b
+same_line : (a b : List ℕ) (e : PolicyLine) → LineText a e → LineText b e → a ≡ b
 same_line a b e p q = p.spelled ∙ ap (line_of e) (one_time (end_of e) p.time q.time p.end q.end) ∙ sym q.spelled
 
-same_lines : (a b : List (List ℕ)) (es : List Entry) → LinesText a es → LinesText b es → a ≡ b
+same_lines : (a b : List (List ℕ)) (es : List PolicyLine) → LinesText a es → LinesText b es → a ≡ b
 same_lines [] [] [] p q = refl
 same_lines [] (m ∷ b) [] p q = absurd q
 same_lines (l ∷ a) b [] p q = absurd p
@@ -274,7 +274,7 @@ same_lines (l ∷ a) [] (e ∷ es) p q = absurd q
 same_lines (l ∷ a) (m ∷ b) (e ∷ es) p q = (λ i. same_line l m e p.0 q.0 i ∷ same_lines a b es p.1 q.1 i)
 
 pub one_text : (a b : List ℕ) (c : Content) → PolicyText a c → PolicyText b c → a ≡ b
-one_text a b c t u = t.spelled ∙ ap (λ l. ended (header ∷ l)) (same_lines t.lines u.lines (entries c) t.say u.say) ∙ sym u.spelled
+one_text a b c t u = t.spelled ∙ ap (λ l. ended (header ∷ l)) (same_lines t.lines u.lines (policy_lines c) t.say u.say) ∙ sym u.spelled
 
 -- ---- what a reader answers
 

@@ -2,13 +2,13 @@
 use Rattle.std.proofs.Common.{◌≡◌, ℕ, List, [], ◌∷◌, ◌++◌, map, refl, sym, ap, ◌∙◌, append_assoc, append-nil}
 use Rattle.std.specs.Prelude.{codes}
 use Rattle.civil_moment.specs.declared.moment.Moment.{Moment}
+use Rattle.hash_kit.specs.Algorithm.{word_of}
 use Rattle.hash_kit.specs.declared.algorithm.HashAlg.{HashAlg}
 use Rattle.hash_kit.specs.declared.algorithm.HashAlg.TheVariants.{Sha256, Sha384, Sha512}
 use Rattle.hex.specs.Hex.{encode_lower}
 use Rattle.algorithm_policy.specs.declared.signer.Signer.{Signer}
-use Rattle.algorithm_policy.specs.declared.entry.Entry.{Entry}
-use Rattle.algorithm_policy.specs.declared.entry.Entry.TheVariants.{Hash, Authority}
-use Rattle.algorithm_policy.specs.Words.{word_of}
+use Rattle.algorithm_policy.specs.declared.policy_line.PolicyLine.{PolicyLine}
+use Rattle.algorithm_policy.specs.declared.policy_line.PolicyLine.TheVariants.{Hash, Authority}
 use Rattle.algorithm_policy.specs.Content.{Content, IsPolicy}
 use Rattle.algorithm_policy.specs.Text.{ended, header, hash_line, authority_line, named, PolicyText}
 use Rattle.algorithm_policy.specs.Inside.{Writes, EndsLine}
@@ -18,7 +18,7 @@ use Rattle.algorithm_policy.proofs.ReadLemmas.{ended_joined, lines_joined}
 pub nothing_written : (text : List ℕ) → Writes text text []
 nothing_written text = record { lines = []; say = tt; is = sym (append-nil text) }
 
-pub then : (a b c : List ℕ) (es fs : List Entry) → Writes a b es → Writes b c fs → Writes a c (es ++ fs)
+pub then : (a b c : List ℕ) (es fs : List PolicyLine) → Writes a b es → Writes b c fs → Writes a c (es ++ fs)
 then a b c es fs h k = record {
   lines = h.lines ++ k.lines;
   say = lines_joined h.lines k.lines es fs h.say k.say;

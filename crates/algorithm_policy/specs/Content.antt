@@ -1,17 +1,18 @@
 -- What a policy says: until when each hash algorithm and each authority is good.
-use Rattle.std.specs.Prelude.{ℕ, ◌≤◌, Bool, true, not, ◌&&◌, IsTrue, List, [], ◌∷◌, length, find, Option, None, unwrap_or, pos}
+use Rattle.std.specs.Prelude.{◌≡◌, ℕ, ◌≤◌, Bool, true, not, ◌&&◌, IsTrue, List, [], ◌∷◌, length, find, Option, None, unwrap_or, pos}
 use Rattle.std.proofs.Common.{lit<}
 use Rattle.std.specs.List.{list_all, list_any, AllByRecursion}
 use Rattle.std.specs.Ordering.{is_lt, is_le}
 use Rattle.std.specs.Str.{bytes_eq}
 use Rattle.civil_moment.specs.declared.moment.Moment.{Moment}
 use Rattle.civil_moment.specs.Moment.{moment_order}
+use Rattle.hash_kit.specs.Algorithm.{algorithms}
 use Rattle.hash_kit.specs.Node.{bytes_cmp}
 use Rattle.hash_kit.specs.declared.algorithm.HashAlg.{HashAlg}
 use Rattle.hash_kit.specs.declared.algorithm.HashAlg.TheVariants.{Sha256, Sha384, Sha512}
 use Rattle.hex.specs.Hex.{IsBytes}
 use Rattle.algorithm_policy.specs.declared.signer.Signer.{Signer}
-use Rattle.algorithm_policy.specs.Words.{algorithms, is_name, is_sid, is_key, is_cert}
+use Rattle.algorithm_policy.specs.Words.{is_name, is_sid, is_key, is_cert}
 
 -- the ends of the hash algorithms that it names, and the authorities in their order
 pub record Content : Type 0 where
@@ -89,3 +90,10 @@ is_same a b = bytes_eq a.name b.name && bytes_eq a.sid b.sid && bytes_eq a.key b
 -- the first authority of the old policy that the new one lacks, or has with another identifier, key or certificate
 abbrev pub first_dropped : Content → Content → Option Signer
 first_dropped old new = find (λ signer. not (list_any (is_same signer) new.signers)) old.signers
+
+-- the same name, identifier, key and certificate, whatever the ends
+pub record IsKept (old new : Signer) : Type 0 where
+  pub name : new.name ≡ old.name
+  pub sid : new.sid ≡ old.sid
+  pub key : new.key ≡ old.key
+  pub cert : new.cert ≡ old.cert

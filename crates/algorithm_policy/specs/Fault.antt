@@ -4,10 +4,11 @@ use Rattle.std.specs.List.{list_all, list_any, slice_split}
 use Rattle.std.specs.Option.{option_map}
 use Rattle.std.specs.Str.{bytes_eq}
 use Rattle.der_values.specs.Next.{is_empty}
+use Rattle.hash_kit.specs.Algorithm.{place_of, algorithm_named}
 use Rattle.hash_kit.specs.declared.algorithm.HashAlg.{HashAlg}
 use Rattle.algorithm_policy.specs.declared.fault.PolicyKind.{PolicyKind}
 use Rattle.algorithm_policy.specs.declared.fault.PolicyKind.TheVariants.{Header, Form, Name, Hex, Sid, Key, Cert, Date, Order, Twice, TooMany}
-use Rattle.algorithm_policy.specs.Words.{place_of, algorithm_named, is_name, is_hex, bytes_of, is_sid, is_key, is_cert, is_time}
+use Rattle.algorithm_policy.specs.Words.{is_name, is_hex, bytes_of, is_sid, is_key, is_cert, is_time}
 use Rattle.algorithm_policy.specs.Content.{is_below}
 use Rattle.algorithm_policy.specs.Text.{header}
 
@@ -17,6 +18,7 @@ use Rattle.algorithm_policy.specs.Text.{header}
 abbrev pub parts : ℕ → List ℕ → List (List ℕ)
 parts separator text = slice_split (λ b. b == separator) text
 
+-- the words of a line
 abbrev pub words : List ℕ → List (List ℕ)
 words line = parts 32 line
 
@@ -33,6 +35,8 @@ form_of words = None
 
 -- ---- what is wrong with its words
 
+-- what is wrong with the words of a line, by their shapes: the name, the hexadecimal digits, the identifier, the key,
+-- the certificate, the end
 abbrev pub word_fault : Line → Option PolicyKind
 word_fault (hash alg end) = if is_time end then None else Some Date
 word_fault (authority name sid key cert end) =
@@ -51,6 +55,7 @@ pub data Subject : Type 0 where
   algorithm : HashAlg → Subject
   signer : (name sid : List ℕ) → Subject
 
+-- what a line is about
 abbrev pub subject_of : Line → Subject
 subject_of (hash alg end) = algorithm alg
 subject_of (authority name sid key cert end) = signer name (bytes_of sid)
@@ -67,6 +72,7 @@ abbrev pub share_sid : Subject → Subject → Bool
 share_sid (signer name sid) (signer other sid2) = bytes_eq sid sid2
 share_sid before subject = false
 
+-- it is an authority
 abbrev pub is_signer : Subject → Bool
 is_signer (signer name sid) = true
 is_signer (algorithm a) = false
@@ -109,5 +115,6 @@ fault_of_lines [] = Some (1, Header)
 fault_of_lines (line ∷ []) = Some (1, Header)
 fault_of_lines (line ∷ next ∷ rest) = if bytes_eq line header then fault_in 2 [] (next ∷ rest) else Some (1, Header)
 
+-- the first fault of a text with the number of its line, or none
 abbrev pub first_fault : List ℕ → Option (ℕ × PolicyKind)
 first_fault text = fault_of_lines (parts 10 text)

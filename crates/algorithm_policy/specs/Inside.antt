@@ -1,27 +1,26 @@
 -- What the private functions say of each other.
-use Rattle.std.specs.Prelude.{◌≡◌, ℕ, ◌+◌, ◌<◌, ⊤, Bool, true, false, not, ◌||◌, nat_le, List, [], ◌∷◌, ◌++◌, length, map, Option, Some, None, is_some, if◌then◌else◌}
+use Rattle.std.specs.Prelude.{◌≡◌, ℕ, ◌+◌, ◌<◌, ⊤, Bool, true, false, not, ◌||◌, List, [], ◌∷◌, ◌++◌, length, map, Option, Some, None, is_some, if◌then◌else◌}
 use Rattle.std.specs.List.{list_all, list_any}
-use Rattle.std.specs.Ordering.{is_gt}
 use Rattle.std.specs.Str.{bytes_eq}
 use Rattle.civil_moment.specs.declared.moment.Moment.{Moment}
 use Rattle.hash_kit.specs.declared.algorithm.HashAlg.{HashAlg}
 use Rattle.hash_kit.specs.declared.algorithm.HashAlg.TheVariants.{Sha256, Sha384, Sha512}
-use Rattle.civil_moment.specs.Moment.{Text, moment_order}
+use Rattle.civil_moment.specs.Moment.{Text, is_before}
 use Rattle.hex.specs.Hex.{encode_lower}
 use Rattle.algorithm_policy.specs.declared.fault.PolicyKind.{PolicyKind}
-use Rattle.algorithm_policy.specs.declared.fault.PolicyKind.TheVariants.{Form, Order, Twice, TooMany}
+use Rattle.algorithm_policy.specs.declared.fault.PolicyKind.TheVariants.{Form, Order}
 use Rattle.algorithm_policy.specs.declared.fault.PolicyFault.{PolicyFault}
 use Rattle.algorithm_policy.specs.declared.fault.PolicyFault.TheVariants.{At, Memory}
 use Rattle.algorithm_policy.specs.declared.fault.LineFault.{LineFault}
 use Rattle.algorithm_policy.specs.declared.fault.LineFault.TheVariants.{Is, Memory as NoRoom}
 use Rattle.algorithm_policy.specs.declared.signer.Signer.{Signer}
-use Rattle.algorithm_policy.specs.declared.entry.Entry.{Entry}
-use Rattle.algorithm_policy.specs.declared.entry.Entry.TheVariants.{Hash, Authority}
+use Rattle.algorithm_policy.specs.declared.policy_line.PolicyLine.{PolicyLine}
+use Rattle.algorithm_policy.specs.declared.policy_line.PolicyLine.TheVariants.{Hash, Authority}
 use Rattle.algorithm_policy.specs.declared.line.AuthorityWords.{AuthorityWords}
 use Rattle.algorithm_policy.specs.declared.line.Line.{Line as FoundLine}
 use Rattle.algorithm_policy.specs.declared.line.Line.TheVariants.{Hash as FoundHash, Authority as FoundAuthority}
 use Rattle.algorithm_policy.specs.Content.{Content, IsSigner, IsPolicy, is_below, hash_end}
-use Rattle.algorithm_policy.specs.Text.{LineText, LinesText, entries, ended, header}
+use Rattle.algorithm_policy.specs.Text.{LineText, LinesText, policy_lines, ended, header}
 use Rattle.algorithm_policy.specs.Fault.{Line, hash, authority, form_of, word_fault, Subject, algorithm, signer, subject_of, words, parts, place_fault, fault_in, first_fault}
 
 -- the form of a line, without where its words lie in memory
@@ -47,18 +46,18 @@ abbrev pub Names : PolicyFault → Option (ℕ × PolicyKind) → Type 0
 Names (At line kind) fault = fault ≡ Some (line, kind)
 Names Memory fault = ⊤
 
--- ---- entries
+-- ---- lines
 
-abbrev pub entry_subject : Entry → Subject
-entry_subject (Hash alg end) = algorithm alg
-entry_subject (Authority s) = signer s.name s.sid
+abbrev pub line_subject : PolicyLine → Subject
+line_subject (Hash alg end) = algorithm alg
+line_subject (Authority s) = signer s.name s.sid
 
 abbrev pub subjects : Content → List Subject
-subjects policy = map entry_subject (entries policy)
+subjects policy = map line_subject (policy_lines policy)
 
-abbrev pub IsEntry : Entry → Type 0
-IsEntry (Hash alg end) = ⊤
-IsEntry (Authority s) = IsSigner s
+abbrev pub IsPolicyLine : PolicyLine → Type 0
+IsPolicyLine (Hash alg end) = ⊤
+IsPolicyLine (Authority s) = IsSigner s
 
 -- the words say this authority
 pub record SaysSigner (a b c d e : List ℕ) (s : Signer) : Type 0 where
@@ -75,13 +74,13 @@ abbrev pub Says : Line → Signer → Type 0
 Says (hash alg end) s = ⊥
 Says (authority a b c d e) s = SaysSigner a b c d e s
 
--- the line says this entry, and nothing is wrong with its words
-pub record SaysEntry (line : List ℕ) (entry : Entry) : Type 0 where
-  pub valid : IsEntry entry
-  pub text : LineText line entry
+-- the line says this, and nothing is wrong with its words
+pub record SaysLine (line : List ℕ) (said : PolicyLine) : Type 0 where
+  pub valid : IsPolicyLine said
+  pub text : LineText line said
   pub form : Line
   pub is : form_of (words line) ≡ Some form
-  pub subject : subject_of form ≡ entry_subject entry
+  pub subject : subject_of form ≡ line_subject said
   pub sound : word_fault form ≡ None
 
 -- what is wrong with the form of a line or its words
@@ -95,10 +94,10 @@ own_fault (Some form) = word_fault form
 pub record TakesLine (old new : Content) (left after : List ℕ) : Type 0 where
   pub valid : IsPolicy new
   pub line : List ℕ
-  pub entry : Entry
+  pub said : PolicyLine
   pub spelled : left ≡ line ++ 10 ∷ after
-  pub text : LineText line entry
-  pub added : entries new ≡ entries old ++ entry ∷ []
+  pub text : LineText line said
+  pub added : policy_lines new ≡ policy_lines old ++ said ∷ []
   pub faults : (number : ℕ) → fault_in number (subjects old) (parts 10 left) ≡ fault_in (number + 1) (subjects new) (parts 10 after)
 
 -- the first of the lines that are left, of whatever number, has this fault, or memory ran out
@@ -109,19 +108,19 @@ BlamesFirst f before left = (number : ℕ) → Names (fault_at number f) (fault_
 pub record ReadSoFar (text left : List ℕ) (number : ℕ) (policy : Content) : Type 0 where
   pub valid : IsPolicy policy
   pub lines : List (List ℕ)
-  pub say : LinesText lines (entries policy)
+  pub say : LinesText lines (policy_lines policy)
   pub front : text ≡ ended lines ++ left
-  pub counted : number ≡ 2 + length (entries policy)
+  pub counted : number ≡ 2 + length (policy_lines policy)
   pub faults : fault_in 2 [] (parts 10 text) ≡ fault_in number (subjects policy) (parts 10 left)
 
 -- all lines say the policy
 pub record SayPolicy (text : List ℕ) (policy : Content) : Type 0 where
   pub valid : IsPolicy policy
   pub lines : List (List ℕ)
-  pub say : LinesText lines (entries policy)
+  pub say : LinesText lines (policy_lines policy)
   pub spelled : text ≡ ended lines
 
--- ---- taking in an entry
+-- ---- taking in a line
 
 abbrev pub is_nil : {A : Type 0} → List A → Bool
 is_nil [] = true
@@ -136,28 +135,11 @@ names_later policy Sha512 = is_some policy.sha512
 abbrev pub names_from : Content → HashAlg → Bool
 names_from policy alg = names_later policy alg || not (is_nil policy.signers)
 
--- the policy with the end of an algorithm
-abbrev pub with_end : Content → HashAlg → Moment → Content
-with_end policy Sha256 end = record policy { sha256 = Some end }
-with_end policy Sha384 end = record policy { sha384 = Some end }
-with_end policy Sha512 end = record policy { sha512 = Some end }
-
--- the policy with one authority more
-abbrev pub with_signer : Content → Signer → Content
-with_signer policy last = record policy { signers = policy.signers ++ last ∷ [] }
-
 abbrev pub hash_fault : Content → HashAlg → Option PolicyKind
 hash_fault policy alg = if names_from policy alg then Some Order else None
 
-abbrev pub signer_fault : Content → List ℕ → List ℕ → Option PolicyKind
-signer_fault policy name sid =
-    if not (list_all (λ signer. is_below signer.name name) policy.signers) then Some Order
-    else if list_any (λ signer. bytes_eq signer.sid sid) policy.signers then Some Twice
-    else if nat_le 64 (length policy.signers) then Some TooMany
-    else None
-
-abbrev pub entry_fault : Content → Entry → Option PolicyKind
-entry_fault policy entry = place_fault (subjects policy) (entry_subject entry)
+abbrev pub next_fault : Content → PolicyLine → Option PolicyKind
+next_fault policy said = place_fault (subjects policy) (line_subject said)
 
 -- the authority may come next
 pub record MayCome (policy : Content) (next : Signer) : Type 0 where
@@ -167,18 +149,18 @@ pub record MayCome (policy : Content) (next : Signer) : Type 0 where
   pub new : list_any (λ s. bytes_eq s.sid next.sid) policy.signers ≡ false
   pub few : length policy.signers < 64
 
--- the policy took in the entry, which is in its place
-pub record Adds (old new : Content) (entry : Entry) : Type 0 where
+-- the policy took in what a line says, which is in its place
+pub record Adds (old new : Content) (said : PolicyLine) : Type 0 where
   pub valid : IsPolicy new
-  pub added : entries new ≡ entries old ++ entry ∷ []
-  pub placed : entry_fault old entry ≡ None
+  pub added : policy_lines new ≡ policy_lines old ++ said ∷ []
+  pub placed : next_fault old said ≡ None
 
 -- ---- the target
 
 -- the second where it ends later, else the first
 abbrev pub later_of : Content → HashAlg → HashAlg → HashAlg
 later_of policy first second =
-    if is_gt (moment_order (hash_end policy second) (hash_end policy first)) then second else first
+    if is_before (hash_end policy first) (hash_end policy second) then second else first
 
 -- the text is the header's line and then these lines
 pub record IsBehindHeader (text lines : List ℕ) : Type 0 where
@@ -187,8 +169,8 @@ pub record IsBehindHeader (text lines : List ℕ) : Type 0 where
 
 -- ---- writing
 
--- lines that say these entries were added
-pub record Writes (old new : List ℕ) (added : List Entry) : Type 0 where
+-- lines that say this were added
+pub record Writes (old new : List ℕ) (added : List PolicyLine) : Type 0 where
   pub lines : List (List ℕ)
   pub say : LinesText lines added
   pub is : new ≡ old ++ ended lines

@@ -1,37 +1,14 @@
 -- The words of a policy text, and which of them are of their shape.
-use Rattle.std.specs.Prelude.{ℕ, ◌%◌, ◌==◌, Bool, false, ◌&&◌, ◌||◌, nat_lt, nat_le, List, [], ◌∷◌, length, codes, find, Option, is_none, Result, Ok, Err}
+use Rattle.std.specs.Prelude.{ℕ, ◌%◌, ◌==◌, Bool, false, ◌&&◌, ◌||◌, nat_lt, nat_le, List, [], length, is_none, Result, Ok, Err}
 use Rattle.std.specs.List.{list_all}
 use Rattle.std.specs.Char.{is_ascii_lowercase, is_ascii_digit}
 use Rattle.std.specs.Result.{result_unwrap_or}
-use Rattle.std.specs.Str.{bytes_eq}
 use Rattle.civil_moment.specs.Fault.{first_fault as time_fault}
 use Rattle.der_values.specs.declared.fault.DerFault.{DerFault}
 use Rattle.der_values.specs.Input.{Input, Item}
 use Rattle.der_values.specs.Next.{is_empty, next_of}
 use Rattle.hash_kit.specs.HssKey.{key_fault}
-use Rattle.hash_kit.specs.declared.algorithm.HashAlg.{HashAlg}
-use Rattle.hash_kit.specs.declared.algorithm.HashAlg.TheVariants.{Sha256, Sha384, Sha512}
 use Rattle.hex.specs.Hex.{decode_of}
-
--- ---- the hash algorithms
-
--- all that a policy can name, in their order
-abbrev pub algorithms : List HashAlg
-algorithms = Sha256 ∷ Sha384 ∷ Sha512 ∷ []
-
-abbrev pub place_of : HashAlg → ℕ
-place_of Sha256 = 0
-place_of Sha384 = 1
-place_of Sha512 = 2
-
-abbrev pub word_of : HashAlg → List ℕ
-word_of Sha256 = codes "sha256"
-word_of Sha384 = codes "sha384"
-word_of Sha512 = codes "sha512"
-
--- the algorithm that a word names
-abbrev pub algorithm_named : List ℕ → Option HashAlg
-algorithm_named word = find (λ alg. bytes_eq word (word_of alg)) algorithms
 
 -- ---- names, of 1 to 32 of a to z, 0 to 9 and the hyphen
 

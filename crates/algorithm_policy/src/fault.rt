@@ -40,9 +40,9 @@ pub enum PolicyFault {
     Memory,
 }
 
-/// Why a line can't be taken in.
+/// Why a line, or the authority that it would name, can't be taken in.
 #[derive(Clone, Copy, Debug, PartialEq, Eq, Drop)]
-pub(crate) enum LineFault {
+pub enum LineFault {
     /// The line's first fault.
     Is(PolicyKind),
     /// Memory ran out.

@@ -1,14 +1,16 @@
 //! Laws of the definitions that the crate's contracts cite. Each function has an empty body: its clause is the law.
 
-ghost use Rattle.std.specs.Prelude.{◌≡◌, ◌↔◌, ◌⊎◌, ◌<◌, ◌≤◌, ℕ, List, None, true, length, IsTrue};
+ghost use Rattle.std.specs.Prelude.{◌≡◌, ◌↔◌, ◌⊎◌, ◌<◌, ◌≤◌, ℕ, List, None, Some, true, length, IsTrue, Contains};
 ghost use Rattle.std.specs.Ordering.{is_le};
 ghost use Rattle.std.specs.declared.cmp.Ordering.TheVariants.{Less};
 ghost use Rattle.civil_moment.specs.Moment.{moment_order};
 ghost use Rattle.der_values.specs.Value.{Spells};
+ghost use Rattle.hash_kit.specs.Algorithm.{place_of};
 ghost use Rattle.hash_kit.specs.declared.algorithm.HashAlg.{HashAlg};
 ghost use Rattle.hex.specs.Hex.{IsBytes};
-ghost use Rattle.algorithm_policy.specs.Words.{is_sid, place_of};
-ghost use Rattle.algorithm_policy.specs.Content.{Content, hash_end, target};
+ghost use Rattle.algorithm_policy.specs.declared.signer.Signer.{Signer};
+ghost use Rattle.algorithm_policy.specs.Words.{is_sid};
+ghost use Rattle.algorithm_policy.specs.Content.{Content, IsPolicy, IsKept, hash_end, target, signer_of, first_dropped};
 ghost use Rattle.algorithm_policy.specs.Text.{PolicyText};
 ghost use Rattle.algorithm_policy.specs.Fault.{first_fault};
 
@@ -41,4 +43,20 @@ pub fn the_target_ends_last()
         → is_le (moment_order (hash_end policy alg) (hash_end policy (target policy))) ≡ true }
     ensures first { (policy : Content) (alg : HashAlg) → place_of alg < place_of (target policy)
         → moment_order (hash_end policy alg) (hash_end policy (target policy)) ≡ Less }
+{}
+
+/// A policy keeps an older one exactly where each authority of the older one stands in it with the same name,
+/// identifier, key and certificate; the ends may be others. So by each identifier that the older one knows it finds the
+/// same authority.
+pub fn what_a_policy_keeps()
+    ensures kept { (old new : Content) → first_dropped old new ≡ None
+        → (signer : Signer) → Contains old.signers signer
+        → (other : Signer) × Contains new.signers other × IsKept signer other }
+    ensures only { (old new : Content)
+        → ((signer : Signer) → Contains old.signers signer
+        → (other : Signer) × Contains new.signers other × IsKept signer other)
+        → first_dropped old new ≡ None }
+    ensures found { (old new : Content) → IsPolicy new → first_dropped old new ≡ None
+        → (sid : List ℕ) (signer : Signer) → signer_of old sid ≡ Some signer
+        → (other : Signer) × (signer_of new sid ≡ Some other) × IsKept signer other }
 {}

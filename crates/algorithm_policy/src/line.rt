@@ -1,6 +1,5 @@
 ghost use Rattle.std.specs.Prelude.{◌≡◌, ◌<◌, ◌==◌, ℕ, List, [], ◌∷◌, ◌++◌, length, codes, position, IfSome, IfNone};
 ghost use Rattle.std.specs.Option.{option_map};
-ghost use Rattle.algorithm_policy.specs.Words.{algorithm_named, word_of};
 ghost use Rattle.algorithm_policy.specs.Fault.{parts, words, form_of};
 ghost use Rattle.algorithm_policy.specs.Inside.{seen};
 
@@ -14,12 +13,6 @@ pub(crate) const HASH: &[u8] = b"hash";
 
 /// The first word of an authority's line.
 pub(crate) const AUTHORITY: &[u8] = b"authority";
-
-const SHA256: &[u8] = b"sha256";
-
-const SHA384: &[u8] = b"sha384";
-
-const SHA512: &[u8] = b"sha512";
 
 /// The words of a line of one of the two forms.
 #[derive(Clone, Copy)]
@@ -88,7 +81,7 @@ fn hash_form(rest: &[u8]) -> Option<Line<'_>>
 {
     let (name, rest) = split_once(rest, b' ')?;
     let end = last_word(rest)?;
-    let alg = algorithm_named(name)?;
+    let alg = HashAlg::of_word(name)?;
     Some(Line::Hash(alg, end))
 }
 
@@ -107,30 +100,4 @@ fn authority_form(rest: &[u8]) -> Option<Line<'_>>
         cert,
         end,
     }))
-}
-
-/// The word that names an algorithm.
-pub(crate) fn word_of(alg: HashAlg) -> &'static [u8]
-    ensures { result.now ≡ word_of alg }
-{
-    match alg {
-        HashAlg::Sha256 => SHA256,
-        HashAlg::Sha384 => SHA384,
-        HashAlg::Sha512 => SHA512,
-    }
-}
-
-// The algorithm that a word names.
-fn algorithm_named(word: &[u8]) -> Option<HashAlg>
-    ensures { result ≡ algorithm_named word.now }
-{
-    if word == SHA256 {
-        Some(HashAlg::Sha256)
-    } else if word == SHA384 {
-        Some(HashAlg::Sha384)
-    } else if word == SHA512 {
-        Some(HashAlg::Sha512)
-    } else {
-        None
-    }
 }

@@ -1,17 +1,18 @@
-ghost use Rattle.std.specs.Prelude.{◌≡◌, ◌↔◌, IsTrue, Some, None, IfOk, IfErr, IfNone, OnOk, Contains, is_none};
+ghost use Rattle.std.specs.Prelude.{◌≡◌, Some, None, IfOk, IfErr, IfNone, OnOk, OnErr, Contains};
 ghost use Rattle.std.specs.List.{list_all, list_any};
 ghost use Rattle.std.specs.Option.{option_map};
 ghost use Rattle.std.specs.Str.{bytes_eq};
 ghost use Rattle.algorithm_policy.specs.Content.{IsSigner, IsPolicy, is_below, empty, named_end, hash_end, target, signer_of};
-ghost use Rattle.algorithm_policy.specs.Inside.{Blames, Adds, IsEntry, names_from, names_later, with_end, MayCome, hash_fault, signer_fault, later_of, entry_fault};
+ghost use Rattle.algorithm_policy.specs.Change.{with_end, with_signer, signer_fault, refusal};
+ghost use Rattle.algorithm_policy.specs.Inside.{Blames, Adds, IsPolicyLine, names_from, names_later, MayCome, hash_fault, later_of, next_fault};
 ghost use Rattle.algorithm_policy.specs.declared.signer.Signer.{Signer};
 ghost use Rattle.algorithm_policy.specs.declared.fault.LineFault.TheVariants.{Memory};
-ghost use Rattle.algorithm_policy.specs.declared.entry.Entry.TheVariants.{Hash, Authority};
+ghost use Rattle.algorithm_policy.specs.declared.policy_line.PolicyLine.TheVariants.{Hash, Authority};
 
-use crate::entry::Entry;
 use crate::fault::{LineFault, PolicyKind};
+use crate::policy_line::PolicyLine;
 use crate::signer::Signer;
-use civil_moment::{Moment, moment_cmp};
+use civil_moment::{Moment, is_before};
 use hash_kit::HashAlg;
 use std::alloc::{AllocError, Global};
 use std::cmp::Ordering;
@@ -131,22 +132,47 @@ impl Policy {
     fn later(&self, first: HashAlg, second: HashAlg) -> HashAlg
         ensures { result ≡ later_of self.now first second }
     {
-        if moment_cmp(&self.hash_end(second), &self.hash_end(first)) == Ordering::Greater {
+        if is_before(&self.hash_end(first), &self.hash_end(second)) {
             second
         } else {
             first
         }
     }
 
-    /// Takes in what a line says, after all that the policy has.
-    pub(crate) fn add(&mut self, entry: Entry) -> Result<(), LineFault>
-        requires { IsEntry entry }
-        ensures ok { OnOk result (Adds self.old self.new entry) }
-        ensures fault { IfErr result (λ f. Blames f (entry_fault self.old entry)) }
+    /// The same with this end of a hash algorithm.
+    pub fn ending(self, alg: HashAlg, end: Moment) -> Policy
+        ensures { result ≡ with_end self alg end }
     {
-        match entry {
-            Entry::Hash(alg, end) => self.add_hash(alg, end),
-            Entry::Authority(signer) => self.add_signer(signer),
+        let mut policy = self;
+        policy.set_end(alg, end);
+        policy
+    }
+
+    /// The same with one authority more, behind the others. Else it stays as it is, and the fault is the one that the
+    /// authority's line would have behind the lines of the policy (Order, Twice or TooMany), or want of memory.
+    pub fn trusting(self, signer: Signer) -> Result<Policy, (Policy, LineFault)>
+        requires { IsSigner signer }
+        ensures ok { IfOk result (λ policy. policy ≡ with_signer self signer) }
+        ensures placed { OnOk result (signer_fault self signer.name signer.sid ≡ None) }
+        ensures fault { IfErr result (λ e. (e.0 ≡ self)
+            × (e.1 ≡ refusal (signer_fault self signer.name signer.sid))) }
+    {
+        let mut policy = self;
+        match policy.add_signer(signer) {
+            Ok(()) => Ok(policy),
+            Err(fault) => Err((policy, fault)),
+        }
+    }
+
+    /// Takes in what a line says, after all that the policy has.
+    pub(crate) fn add(&mut self, line: PolicyLine) -> Result<(), LineFault>
+        requires { IsPolicyLine line }
+        ensures ok { OnOk result (Adds self.old self.new line) }
+        ensures fault { IfErr result (λ f. Blames f (next_fault self.old line)) }
+    {
+        match line {
+            PolicyLine::Hash(alg, end) => self.add_hash(alg, end),
+            PolicyLine::Authority(signer) => self.add_signer(signer),
         }
     }
 
@@ -195,7 +221,10 @@ impl Policy {
     fn add_signer(&mut self, signer: Signer) -> Result<(), LineFault>
         requires { IsSigner signer }
         ensures ok { OnOk result (Adds self.old self.new (Authority signer)) }
-        ensures fault { IfErr result (λ f. Blames f (signer_fault self.old signer.name signer.sid)) }
+        ensures value { OnOk result (self.new ≡ with_signer self.old signer) }
+        ensures placed { OnOk result (signer_fault self.old signer.name signer.sid ≡ None) }
+        ensures same { OnErr result (self.new ≡ self.old) }
+        ensures fault { IfErr result (λ f. f ≡ refusal (signer_fault self.old signer.name signer.sid)) }
     {
         match self.place_fault(&signer) {
             Some(kind) => Err(LineFault::Is(kind)),
@@ -223,6 +252,8 @@ impl Policy {
     fn push_signer(&mut self, signer: Signer) -> Result<(), LineFault>
         requires { MayCome self.old signer }
         ensures ok { OnOk result (Adds self.old self.new (Authority signer)) }
+        ensures value { OnOk result (self.new ≡ with_signer self.old signer) }
+        ensures same { OnErr result (self.new ≡ self.old) }
         ensures full { IfErr result (λ f. f ≡ Memory) }
     {
         let Ok(()) = self.signers.push(signer) else {

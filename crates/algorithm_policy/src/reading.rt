@@ -7,11 +7,14 @@ ghost use Rattle.algorithm_policy.specs.declared.fault.PolicyKind.{PolicyKind};
 ghost use Rattle.algorithm_policy.specs.declared.fault.PolicyKind.TheVariants.{Header};
 ghost use Rattle.algorithm_policy.specs.declared.fault.PolicyFault.TheVariants.{At, Memory};
 
-use crate::entry::entry_of;
 use crate::fault::{LineFault, PolicyFault, PolicyKind};
 use crate::line::{HEADER, split_once};
 use crate::policy::Policy;
+use crate::policy_line::read_line;
 use std::alloc::Global;
+
+/// The most bytes of a policy's text where one is taken in. To read it no limit is asked.
+pub const LONGEST_POLICY: u64 = 262_144;
 
 /// The policy that the text says, or the first fault: its lines are tried in turn, and each for the kinds of fault in
 /// their order.
@@ -80,11 +83,11 @@ fn add_line<'a>(alloc: Global, policy: &mut Policy, left: &'a [u8]) -> Result<&'
     let Some((line, after)) = split_once(left, b'\n') else {
         return Err(LineFault::Is(PolicyKind::Form));
     };
-    let entry = match entry_of(alloc, line) {
-        Ok(entry) => entry,
+    let said = match read_line(alloc, line) {
+        Ok(said) => said,
         Err(fault) => return Err(fault),
     };
-    match policy.add(entry) {
+    match policy.add(said) {
         Ok(()) => Ok(after),
         Err(fault) => Err(fault),
     }

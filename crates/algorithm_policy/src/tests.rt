@@ -13,31 +13,34 @@ const CERT: &[u8] = b"ba7816bf8f01cfea414140de5dae2223b00361a396177a9cb410ff61f2
 
 const END: &[u8] = b"20300101000000Z";
 
-// The text of these words, with a line feed behind the last.
-fn line(alloc: Global, words: &[&[u8]]) -> Result<Vec<u8>, Fail> {
-    let mut text = Vec::new(alloc);
-    for word in words {
-        if !text.is_empty() {
-            text.push(b' ')?;
+// Adds a text in which `%` stands for the key, `#` for the certificate's hash and `@` for the end.
+fn push_text(whole: &mut Vec<u8>, text: &[u8]) -> Result<(), Fail> {
+    for byte in text {
+        match *byte {
+            b'%' => whole.extend_from_slice(KEY)?,
+            b'#' => whole.extend_from_slice(CERT)?,
+            b'@' => whole.extend_from_slice(END)?,
+            other => whole.push(other)?,
         }
-        text.extend_from_slice(word)?;
     }
-    text.push(b'\n')?;
-    Ok(text)
+    Ok(())
 }
 
-// The first line, and then these pieces.
-fn behind_first(alloc: Global, pieces: &[&[u8]]) -> Result<Vec<u8>, Fail> {
-    let mut text = Vec::new(alloc);
-    text.extend_from_slice(FIRST)?;
-    for piece in pieces {
-        text.extend_from_slice(piece)?;
-    }
-    Ok(text)
+// The first line, and the lines of such a text.
+fn behind_first(alloc: Global, text: &[u8]) -> Result<Vec<u8>, Fail> {
+    let mut whole = FIRST.to_vec(alloc)?;
+    push_text(&mut whole, text)?;
+    Ok(whole)
 }
 
-fn authority(alloc: Global, name: &[u8], sid: &[u8]) -> Result<Vec<u8>, Fail> {
-    line(alloc, &[b"authority", name, sid, KEY, CERT, END])
+// The fault of such a text.
+fn fault_of(alloc: Global, text: &[u8]) -> Result<Option<PolicyFault>, Fail> {
+    let whole = behind_first(alloc, text)?;
+    Ok(read_policy(alloc, whole.as_slice()).err())
+}
+
+fn at(line: u32, kind: PolicyKind) -> Option<PolicyFault> {
+    Some(PolicyFault::At { line, kind })
 }
 
 #[test]
@@ -52,16 +55,14 @@ fn the_first_line_alone_is_the_empty_policy(rt: HostRuntime) -> Result<(), Fail>
     Ok(())
 }
 
+const TWO: &[u8] =
+    b"hash sha256 20350101000000Z\nhash sha384 20600101000000Z\nhash sha512 20600101000000Z\nauthority early 8002aa01 % # @\nauthority late 30030201ff % # @\n";
+
 // The seconds are those of `date -u +%s`.
 #[test]
 fn a_policy_is_read_answered_and_written_again(rt: HostRuntime) -> Result<(), Fail> {
-    let alloc = rt.alloc();
-    let early = authority(alloc, b"early", b"8002aa01")?;
-    let late = authority(alloc, b"late", b"30030201ff")?;
-    let hashes =
-        b"hash sha256 20350101000000Z\nhash sha384 20600101000000Z\nhash sha512 20600101000000Z\n";
-    let text = behind_first(alloc, &[hashes, early.as_slice(), late.as_slice()])?;
-    let policy = read_policy(alloc, text.as_slice())?;
+    let text = behind_first(rt.alloc(), TWO)?;
+    let policy = read_policy(rt.alloc(), text.as_slice())?;
     assert_eq!(rt; policy.hash_end(HashAlg::Sha256).seconds, 2_051_222_400);
     assert_eq!(rt; policy.hash_end(HashAlg::Sha384).seconds, 2_840_140_800);
     assert_eq!(rt; policy.target(), HashAlg::Sha384);
@@ -71,110 +72,57 @@ fn a_policy_is_read_answered_and_written_again(rt: HostRuntime) -> Result<(), Fa
     assert_eq!(rt; signer.name.as_slice(), b"early".as_slice());
     assert_eq!(rt; signer.key.levels(), 2);
     assert!(rt; policy.signer(b"\xaa\x01").is_none());
-    assert_eq!(rt; write_policy(alloc, &policy)?.as_slice(), text.as_slice());
+    assert_eq!(rt;
+        write_policy(rt.alloc(), &policy)?.as_slice(),
+        text.as_slice()
+    );
     Ok(())
 }
 
+// Each stands behind one good line, with more behind it.
 #[test]
 fn each_kind_of_fault_stands_at_its_line(rt: HostRuntime) -> Result<(), Fail> {
-    let alloc = rt.alloc();
-    let good = authority(alloc, b"b", b"8001aa")?;
-    let rows: [(&[&[u8]], PolicyKind); 24] = [
-        (&[b"hash", b"md5", END], PolicyKind::Form),
-        (&[b"hash", b"sha256"], PolicyKind::Form),
-        (&[b"hash", b"sha256", END, b""], PolicyKind::Form),
-        (&[b"hash", b"", b"sha256", END], PolicyKind::Form),
-        (&[b""], PolicyKind::Form),
+    let rows: [(&[u8], PolicyKind); 24] = [
+        (b"hash md5 @", PolicyKind::Form),
+        (b"hash sha256", PolicyKind::Form),
+        (b"hash sha256 @ ", PolicyKind::Form),
+        (b"hash  sha256 @", PolicyKind::Form),
+        (b"", PolicyKind::Form),
+        (b"Authority c 8001bb % # @", PolicyKind::Form),
+        (b"authority c 8001bb % #", PolicyKind::Form),
+        (b"authority  80 % # @", PolicyKind::Name),
+        (b"authority C 80 % # @", PolicyKind::Name),
         (
-            &[b"Authority", b"c", b"8001bb", KEY, CERT, END],
-            PolicyKind::Form,
-        ),
-        (
-            &[b"authority", b"c", b"8001bb", KEY, CERT],
-            PolicyKind::Form,
-        ),
-        (
-            &[b"authority", b"", b"80", KEY, CERT, END],
+            b"authority abcdefghijklmnopqrstuvwxyz-012345 8001bb % # @",
             PolicyKind::Name,
         ),
-        (
-            &[b"authority", b"C", b"80", KEY, CERT, END],
-            PolicyKind::Name,
-        ),
-        (
-            &[
-                b"authority",
-                b"abcdefghijklmnopqrstuvwxyz-012345",
-                b"8001bb",
-                KEY,
-                CERT,
-                END,
-            ],
-            PolicyKind::Name,
-        ),
-        (
-            &[b"authority", b"c", b"8001BB", KEY, CERT, END],
-            PolicyKind::Hex,
-        ),
-        (
-            &[b"authority", b"c", b"8001b", KEY, CERT, END],
-            PolicyKind::Hex,
-        ),
-        (
-            &[b"authority", b"c", b"80", KEY, b"0g", END],
-            PolicyKind::Hex,
-        ),
-        (&[b"authority", b"c", b"", KEY, CERT, END], PolicyKind::Sid),
-        (
-            &[b"authority", b"c", b"8001bb00", KEY, CERT, END],
-            PolicyKind::Sid,
-        ),
-        (
-            &[b"authority", b"c", b"0401bb", KEY, CERT, END],
-            PolicyKind::Sid,
-        ),
-        (
-            &[b"authority", b"c", b"8001bb", b"00", CERT, END],
-            PolicyKind::Key,
-        ),
-        (
-            &[b"authority", b"c", b"8001bb", KEY, b"00", b"2030"],
-            PolicyKind::Cert,
-        ),
-        (
-            &[b"authority", b"c", b"8001bb", KEY, CERT, b"20300229000000Z"],
-            PolicyKind::Date,
-        ),
-        (
-            &[b"authority", b"b", b"8001aa", KEY, CERT, b""],
-            PolicyKind::Date,
-        ),
-        (
-            &[b"authority", b"b", b"8001bb", KEY, CERT, END],
-            PolicyKind::Order,
-        ),
-        (
-            &[b"authority", b"a", b"8001aa", KEY, CERT, END],
-            PolicyKind::Order,
-        ),
-        (&[b"hash", b"sha256", END], PolicyKind::Order),
-        (
-            &[b"authority", b"c", b"8001aa", KEY, CERT, END],
-            PolicyKind::Twice,
-        ),
+        (b"authority c 8001BB % # @", PolicyKind::Hex),
+        (b"authority c 8001b % # @", PolicyKind::Hex),
+        (b"authority c 80 % 0g @", PolicyKind::Hex),
+        (b"authority c  % # @", PolicyKind::Sid),
+        (b"authority c 8001bb00 % # @", PolicyKind::Sid),
+        (b"authority c 0401bb % # @", PolicyKind::Sid),
+        (b"authority c 8001bb 00 # @", PolicyKind::Key),
+        (b"authority c 8001bb % 00 2030", PolicyKind::Cert),
+        (b"authority c 8001bb % # 20300229000000Z", PolicyKind::Date),
+        (b"authority b 8001aa % # ", PolicyKind::Date),
+        (b"authority b 8001bb % # @", PolicyKind::Order),
+        (b"authority a 8001aa % # @", PolicyKind::Order),
+        (b"hash sha256 @", PolicyKind::Order),
+        (b"authority c 8001aa % # @", PolicyKind::Twice),
     ];
-    for &(words, kind) in &rows {
-        let bad = line(alloc, words)?;
-        let text = behind_first(alloc, &[good.as_slice(), bad.as_slice(), b"x"])?;
-        let fault = read_policy(alloc, text.as_slice()).err();
-        assert_eq!(rt; fault, Some(PolicyFault::At { line: 3, kind }));
+    for &(line, kind) in &rows {
+        let mut text = behind_first(rt.alloc(), b"authority b 8001aa % # @\n")?;
+        push_text(&mut text, line)?;
+        text.extend_from_slice(b"\nx")?;
+        let fault = read_policy(rt.alloc(), text.as_slice()).err();
+        assert_eq!(rt; fault, at(3, kind));
     }
     Ok(())
 }
 
 #[test]
 fn the_first_line_and_the_ends_of_lines_are_exact(rt: HostRuntime) -> Result<(), Fail> {
-    let alloc = rt.alloc();
     let rows: [(&[u8], u32, PolicyKind); 9] = [
         (b"", 1, PolicyKind::Header),
         (b"x", 1, PolicyKind::Header),
@@ -199,8 +147,7 @@ fn the_first_line_and_the_ends_of_lines_are_exact(rt: HostRuntime) -> Result<(),
         ),
     ];
     for &(text, line, kind) in &rows {
-        let fault = read_policy(alloc, text).err();
-        assert_eq!(rt; fault, Some(PolicyFault::At { line, kind }));
+        assert_eq!(rt; read_policy(rt.alloc(), text).err(), at(line, kind));
     }
     Ok(())
 }
@@ -210,78 +157,59 @@ fn push_authorities(text: &mut Vec<u8>, count: u8) -> Result<(), Fail> {
     let alloc = *text.allocator();
     for number in 0..count {
         let digits = hex::encode(alloc, [number])?;
-        let sid = hex::encode(alloc, [0x80, 1, number])?;
-        let one = authority(alloc, digits.as_bytes(), sid.as_bytes())?;
-        text.extend_from_slice(one.as_slice())?;
+        text.extend_from_slice(b"authority ")?;
+        text.extend_from_slice(digits.as_bytes())?;
+        text.extend_from_slice(b" 8001")?;
+        text.extend_from_slice(digits.as_bytes())?;
+        push_text(text, b" % # @\n")?;
     }
     Ok(())
 }
 
 #[test]
 fn at_most_64_authorities_are_taken(rt: HostRuntime) -> Result<(), Fail> {
-    let alloc = rt.alloc();
-    let mut text = behind_first(alloc, &[])?;
+    let mut text = FIRST.to_vec(rt.alloc())?;
     push_authorities(&mut text, 64)?;
-    assert!(rt; read_policy(alloc, text.as_slice()).is_ok());
-    let mut more = behind_first(alloc, &[])?;
+    assert!(rt; read_policy(rt.alloc(), text.as_slice()).is_ok());
+    let mut more = FIRST.to_vec(rt.alloc())?;
     push_authorities(&mut more, 65)?;
-    let fault = read_policy(alloc, more.as_slice()).err();
-    assert_eq!(rt;
-        fault,
-        Some(PolicyFault::At {
-            line: 66,
-            kind: PolicyKind::TooMany
-        })
-    );
-    let again = authority(alloc, b"z", b"800100")?;
-    text.extend_from_slice(again.as_slice())?;
-    let fault = read_policy(alloc, text.as_slice()).err();
-    assert_eq!(rt;
-        fault,
-        Some(PolicyFault::At {
-            line: 66,
-            kind: PolicyKind::Twice
-        })
-    );
+    let fault = read_policy(rt.alloc(), more.as_slice()).err();
+    assert_eq!(rt; fault, at(66, PolicyKind::TooMany));
+    // It is too many, too, but an earlier one has its identifier.
+    push_text(&mut text, b"authority z 800100 % # @\n")?;
+    let fault = read_policy(rt.alloc(), text.as_slice()).err();
+    assert_eq!(rt; fault, at(66, PolicyKind::Twice));
     Ok(())
 }
 
-// The hexadecimal of 30 82, two octets of the length, and so many zero bytes.
+// An authority whose name has 32 letters, with an identifier of a header and so many zero bytes.
 fn long_sid(alloc: Global, header: &[u8], count: usize) -> Result<Vec<u8>, Fail> {
-    let mut word = header.to_vec(alloc)?;
+    let mut line = b"authority abcdefghijklmnopqrstuvwxyz-01234 ".to_vec(alloc)?;
+    line.extend_from_slice(header)?;
     for _ in 0..count {
-        word.extend_from_slice(b"00")?;
+        line.extend_from_slice(b"00")?;
     }
-    Ok(word)
+    line.extend_from_slice(b" % # @\n")?;
+    Ok(line)
 }
 
 #[test]
 fn an_identifier_has_at_most_1024_bytes_and_a_name_32_letters(rt: HostRuntime) -> Result<(), Fail> {
-    let alloc = rt.alloc();
-    let longest = long_sid(alloc, b"308203fc", 1_020)?;
-    let name = b"abcdefghijklmnopqrstuvwxyz-01234";
-    let fits = authority(alloc, name, longest.as_slice())?;
-    let text = behind_first(alloc, &[fits.as_slice()])?;
-    assert!(rt; read_policy(alloc, text.as_slice()).is_ok());
-    let longer = long_sid(alloc, b"308203fd", 1_021)?;
-    let long = authority(alloc, name, longer.as_slice())?;
-    let text = behind_first(alloc, &[long.as_slice()])?;
-    let fault = read_policy(alloc, text.as_slice()).err();
+    let fits = long_sid(rt.alloc(), b"308203fc", 1_020)?;
+    assert_eq!(rt; fault_of(rt.alloc(), fits.as_slice())?, None);
+    let long = long_sid(rt.alloc(), b"308203fd", 1_021)?;
     assert_eq!(rt;
-        fault,
-        Some(PolicyFault::At {
-            line: 2,
-            kind: PolicyKind::Sid
-        })
+        fault_of(rt.alloc(), long.as_slice())?,
+        at(2, PolicyKind::Sid)
     );
     Ok(())
 }
 
-// The name of the first authority that the policy of these pieces doesn't keep, or nothing.
-fn lacking(alloc: Global, old: &Policy, pieces: &[&[u8]]) -> Result<Vec<u8>, Fail> {
-    let text = behind_first(alloc, pieces)?;
-    let new = read_policy(alloc, text.as_slice())?;
-    match keeps(old, &new) {
+// The name of the first authority of the first text that the second doesn't keep, or nothing.
+fn lacking(alloc: Global, old: &[u8], new: &[u8]) -> Result<Vec<u8>, Fail> {
+    let old = read_policy(alloc, behind_first(alloc, old)?.as_slice())?;
+    let new = read_policy(alloc, behind_first(alloc, new)?.as_slice())?;
+    match keeps(&old, &new) {
         Ok(()) => Ok(Vec::new(alloc)),
         Err(signer) => Ok(signer.name.as_slice().to_vec(alloc)?),
     }
@@ -289,28 +217,21 @@ fn lacking(alloc: Global, old: &Policy, pieces: &[&[u8]]) -> Result<Vec<u8>, Fai
 
 #[test]
 fn a_policy_keeps_authorities_whatever_their_ends(rt: HostRuntime) -> Result<(), Fail> {
-    let alloc = rt.alloc();
-    let early = authority(alloc, b"early", b"8001aa")?;
-    let late = authority(alloc, b"late", b"8001bb")?;
-    let text = behind_first(alloc, &[early.as_slice(), late.as_slice()])?;
-    let old = read_policy(alloc, text.as_slice())?;
-    let sooner = line(
-        alloc,
-        &[
-            b"authority",
+    let old = b"authority early 8001aa % # @\nauthority late 8001bb % # @\n";
+    let rows: [(&[u8], &[u8]); 3] = [
+        (
+            b"authority early 8001aa % # @\nauthority late 8001bb % # 20290101000000Z\n",
+            b"",
+        ),
+        (
+            b"authority early 8001aa % # @\nauthority late 8001cc % # @\n",
             b"late",
-            b"8001bb",
-            KEY,
-            CERT,
-            b"20290101000000Z",
-        ],
-    )?;
-    let kept = lacking(alloc, &old, &[early.as_slice(), sooner.as_slice()])?;
-    assert_eq!(rt; kept.as_slice(), b"".as_slice());
-    let other = authority(alloc, b"late", b"8001cc")?;
-    let dropped = lacking(alloc, &old, &[early.as_slice(), other.as_slice()])?;
-    assert_eq!(rt; dropped.as_slice(), b"late".as_slice());
-    let dropped = lacking(alloc, &old, &[])?;
-    assert_eq!(rt; dropped.as_slice(), b"early".as_slice());
+        ),
+        (b"", b"early"),
+    ];
+    for &(new, name) in &rows {
+        let lacking = lacking(rt.alloc(), old, new)?;
+        assert_eq!(rt; lacking.as_slice(), name);
+    }
     Ok(())
 }

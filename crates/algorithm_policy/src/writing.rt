@@ -3,9 +3,9 @@ ghost use Rattle.hex.specs.Hex.{encode_lower};
 ghost use Rattle.algorithm_policy.specs.Content.{named_end};
 ghost use Rattle.algorithm_policy.specs.Text.{PolicyText, named};
 ghost use Rattle.algorithm_policy.specs.Inside.{Writes, EndsLine};
-ghost use Rattle.algorithm_policy.specs.declared.entry.Entry.TheVariants.{Authority};
+ghost use Rattle.algorithm_policy.specs.declared.policy_line.PolicyLine.TheVariants.{Authority};
 
-use crate::line::{AUTHORITY, HASH, HEADER, word_of};
+use crate::line::{AUTHORITY, HASH, HEADER};
 use crate::policy::Policy;
 use crate::signer::Signer;
 use civil_moment::{Moment, write_generalized};
@@ -42,7 +42,7 @@ fn push_hash(text: &mut Vec<u8>, policy: &Policy, alg: HashAlg) -> Result<(), Al
         return Ok(());
     };
     text.extend_from_slice(HASH)?;
-    push_word(text, word_of(alg))?;
+    push_word(text, alg.word())?;
     push_end(text, &end)?;
     Ok(())
 }

@@ -1,5 +1,5 @@
 use Rattle.std.proofs.Common.{sym, ◌∙◌, arith}
-use Rattle.algorithm_policy.proofs.PlaceLemmas.{few_entries}
+use Rattle.algorithm_policy.proofs.PlaceLemmas.{few_lines}
 use Rattle.algorithm_policy.proofs.ReadLemmas.{begins, goes_on, is_read, stops}
 use Rattle.algorithm_policy.proofs.reading.read_lines.Goals as goal
 
@@ -12,7 +12,7 @@ returns-in-Err-clause-fault c = rw c.at.ensures (stops _ _ _ _ _ c.loop-left.inv
 pub overflow_add-number : goal.overflow_add-number
 overflow_add-number c =
     let counted = c.loop-left.invariant.counted in
-    let few = few_entries c.loop-left.policy c.loop-left.invariant.valid in
+    let few = few_lines c.loop-left.policy c.loop-left.invariant.valid in
     omega arith
 
 pub loop-left-preserved : goal.loop-left-preserved

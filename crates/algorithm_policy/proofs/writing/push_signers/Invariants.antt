@@ -1,5 +1,5 @@
 use Rattle.std.proofs.Common.{map, take}
-use Rattle.algorithm_policy.specs.declared.entry.Entry.TheVariants.{Authority}
+use Rattle.algorithm_policy.specs.declared.policy_line.PolicyLine.TheVariants.{Authority}
 use Rattle.algorithm_policy.specs.Inside.{Writes}
 use Rattle.algorithm_policy.proofs.writing.push_signers.Given as goal
 

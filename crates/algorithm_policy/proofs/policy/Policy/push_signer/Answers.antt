@@ -1,7 +1,7 @@
 use Rattle.std.proofs.Common.{List, ap, ◌∙◌}
 use Rattle.algorithm_policy.specs.declared.signer.Signer.{Signer}
 use Rattle.algorithm_policy.specs.Content.{Content}
-use Rattle.algorithm_policy.specs.Inside.{with_signer}
+use Rattle.algorithm_policy.specs.Change.{with_signer}
 use Rattle.algorithm_policy.proofs.PlaceLemmas.{valid_signer, adds_signer}
 use Rattle.algorithm_policy.proofs.policy.Policy.push_signer.Goals as goal
 

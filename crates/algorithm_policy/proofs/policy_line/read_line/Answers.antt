@@ -1,7 +1,7 @@
 use Rattle.std.proofs.Common.{Some, refl, ap, sym, ◌∙◌}
 use Rattle.algorithm_policy.specs.Inside.{seen}
-use Rattle.algorithm_policy.proofs.EntryLemmas.{says_hash, says_authority}
-use Rattle.algorithm_policy.proofs.entry.entry_of.Goals as goal
+use Rattle.algorithm_policy.proofs.PolicyLineLemmas.{says_hash, says_authority}
+use Rattle.algorithm_policy.proofs.policy_line.read_line.Goals as goal
 
 pub returns-in-Some-clause-read : goal.returns-in-Some-clause-read
 returns-in-Some-clause-read c =

@@ -1,7 +1,7 @@
 ghost use Rattle.std.specs.Prelude.{◌≡◌, ◌&&◌, IfOk, IfErr};
 ghost use Rattle.algorithm_policy.specs.Words.{is_hex};
 ghost use Rattle.algorithm_policy.specs.Fault.{words, form_of, word_fault};
-ghost use Rattle.algorithm_policy.specs.Inside.{seen_words, own_fault, Blames, Says, SaysEntry};
+ghost use Rattle.algorithm_policy.specs.Inside.{seen_words, own_fault, Blames, Says, SaysLine};
 
 use crate::fault::{LineFault, PolicyKind};
 use crate::line::{AuthorityWords, Line, form_of};
@@ -14,22 +14,22 @@ use std::alloc::Global;
 
 /// What a line behind the first one says.
 #[derive(Debug, Drop)]
-pub(crate) enum Entry {
+pub(crate) enum PolicyLine {
     Hash(HashAlg, Moment),
     Authority(Signer),
 }
 
 /// What the line says, or the first fault of its form and its words.
-pub(crate) fn entry_of(alloc: Global, line: &[u8]) -> Result<Entry, LineFault>
-    ensures read { IfOk result (SaysEntry line.now) }
+pub(crate) fn read_line(alloc: Global, line: &[u8]) -> Result<PolicyLine, LineFault>
+    ensures read { IfOk result (SaysLine line.now) }
     ensures fault { IfErr result (λ f. Blames f (own_fault (form_of (words line.now)))) }
 {
     match form_of(line) {
         Some(Line::Hash(alg, end)) => match time_of(end) {
-            Some(end) => Ok(Entry::Hash(alg, end)),
+            Some(end) => Ok(PolicyLine::Hash(alg, end)),
             None => Err(LineFault::Is(PolicyKind::Date)),
         },
-        Some(Line::Authority(words)) => Ok(Entry::Authority(signer_of(alloc, &words)?)),
+        Some(Line::Authority(words)) => Ok(PolicyLine::Authority(signer_of(alloc, &words)?)),
         None => Err(LineFault::Is(PolicyKind::Form)),
     }
 }

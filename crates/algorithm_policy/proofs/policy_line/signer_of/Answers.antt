@@ -1,6 +1,6 @@
 use Rattle.std.proofs.Common.{◌∙◌, refl}
-use Rattle.algorithm_policy.proofs.EntryLemmas.{says_signer}
-use Rattle.algorithm_policy.proofs.entry.signer_of.Goals as goal
+use Rattle.algorithm_policy.proofs.PolicyLineLemmas.{says_signer}
+use Rattle.algorithm_policy.proofs.policy_line.signer_of.Goals as goal
 
 pub returns-clause-read : goal.returns-clause-read
 returns-clause-read c = says_signer _ _ _ _ _ _ record {

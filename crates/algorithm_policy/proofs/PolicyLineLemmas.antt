@@ -8,17 +8,18 @@ use Rattle.std.proofs.lemmas.Bool.{and_parts}
 use Rattle.std.proofs.lemmas.Slice.Eq.{bytes_eq-Decides}
 use Rattle.std.proofs.lemmas.List.Splits.{join_with_byte-slice_split}
 use Rattle.civil_moment.specs.declared.moment.Moment.{Moment}
+use Rattle.hash_kit.specs.Algorithm.{algorithms, algorithm_named, word_of}
 use Rattle.hash_kit.specs.declared.algorithm.HashAlg.{HashAlg}
 use Rattle.hash_kit.specs.declared.algorithm.HashAlg.TheVariants.{Sha256, Sha384, Sha512}
 use Rattle.civil_moment.specs.Moment.{Text}
 use Rattle.hex.specs.Hex.{encode_lower}
 use Rattle.algorithm_policy.specs.declared.signer.Signer.{Signer}
 use Rattle.algorithm_policy.specs.declared.fault.PolicyKind.TheVariants.{Name, Hex, Sid, Key, Cert, Date}
-use Rattle.algorithm_policy.specs.Words.{is_name, is_hex, is_sid, is_key, is_cert, is_time, bytes_of, algorithms, algorithm_named, word_of}
+use Rattle.algorithm_policy.specs.Words.{is_name, is_hex, is_sid, is_key, is_cert, is_time, bytes_of}
 use Rattle.algorithm_policy.specs.Text.{joined}
 use Rattle.algorithm_policy.specs.Fault.{word_fault, Line, hash, authority, signer, form_of, words}
-use Rattle.algorithm_policy.specs.Inside.{SaysSigner, SaysEntry}
-use Rattle.algorithm_policy.specs.declared.entry.Entry.TheVariants.{Hash, Authority}
+use Rattle.algorithm_policy.specs.Inside.{SaysSigner, SaysLine}
+use Rattle.algorithm_policy.specs.declared.policy_line.PolicyLine.TheVariants.{Hash, Authority}
 use Rattle.algorithm_policy.proofs.WordLemmas.{decoded}
 
 -- each word is of its shape
@@ -122,7 +123,7 @@ words_are (a ∷ b ∷ c ∷ d ∷ e ∷ f ∷ g ∷ more) line h = cc h
 joined_words : (line : List ℕ) (ws : List (List ℕ)) → words line ≡ ws → line ≡ joined ws
 joined_words line ws h = sym (join_with_byte-slice_split 32 line) ∙ ap joined h
 
-pub says_hash : (line : List ℕ) (alg : HashAlg) (time : List ℕ) (end : Moment) → form_of (words line) ≡ Some (hash alg time) → Text time end → is_time time ≡ true → SaysEntry line (Hash alg end)
+pub says_hash : (line : List ℕ) (alg : HashAlg) (time : List ℕ) (end : Moment) → form_of (words line) ≡ Some (hash alg time) → Text time end → is_time time ≡ true → SaysLine line (Hash alg end)
 says_hash line alg time end form text sound =
     record {
       valid = tt;
@@ -133,7 +134,7 @@ says_hash line alg time end form text sound =
       sound = ap (λ b. cond b None (Some Date)) sound;
     }
 
-pub says_authority : (line : List ℕ) (a b c d e : List ℕ) (s : Signer) → form_of (words line) ≡ Some (authority a b c d e) → SaysSigner a b c d e s → SaysEntry line (Authority s)
+pub says_authority : (line : List ℕ) (a b c d e : List ℕ) (s : Signer) → form_of (words line) ≡ Some (authority a b c d e) → SaysSigner a b c d e s → SaysLine line (Authority s)
 says_authority line a b c d e s form says =
     record {
       valid = says.valid;
