@@ -7,9 +7,8 @@ use Rattle.token_check.specs.declared.fault.Check.{Check}
 use Rattle.token_check.specs.declared.fault.TokenFault.{TokenFault}
 use Rattle.token_check.specs.declared.fault.TokenFault.TheVariants as faults
 use Rattle.token_check.specs.declared.token.CheckedStamp.{CheckedStamp}
-use Rattle.token_check.specs.Sound.{Stamp, Sound}
-use Rattle.token_check.specs.Fault.{Fails}
-use Rattle.token_check.specs.Inside.{stamp_seen, Blames}
+use Rattle.token_check.specs.Sound.{Stamp, Sound, stamp_seen}
+use Rattle.token_check.specs.Fault.{Fails, Blames}
 use Rattle.token_check.proofs.Once.{says_once, fails_once, sound_passes}
 
 abbrev Answer : Type 0

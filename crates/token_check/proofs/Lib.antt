@@ -1,4 +1,5 @@
 pub mod Trust
+pub mod Decided
 pub mod Once
 pub mod Answered
 pub mod StandardFacts

@@ -18,7 +18,8 @@ use Rattle.cms_signed.proofs.Named.{named_once}
 use Rattle.algorithm_policy.specs.Content.{Content}
 use Rattle.token_check.specs.declared.fault.Check.{Check}
 use Rattle.token_check.specs.declared.fault.Check.TheVariants as checks
-use Rattle.token_check.specs.Sound.{longest, known_hash, Stamp, stamp_of, IsSigned, IsStamped, Sound}
+use Rattle.token_check.specs.Sound.{longest, Stamp, stamp_of, IsSigned, IsStamped, Sound}
+use Rattle.cms_signed.specs.Names.{known_hash}
 use Rattle.token_check.specs.Fault.{trust_fault, HasContentFault, HasTrustFault, Fails}
 use Rattle.token_check.proofs.Trust.{trusted_passes}
 

@@ -1,7 +1,7 @@
 -- The definitions at values from outside, so that a wrong rule in the specs does not check.
 use Rattle.std.proofs.Common.{◌≡◌, [], ◌∷◌, true, false, Some, None, refl}
 use Rattle.hash_kit.specs.declared.algorithm.HashAlg.TheVariants.{Sha256, Sha384, Sha512}
-use Rattle.token_check.specs.Sound.{known_hash}
+use Rattle.cms_signed.specs.Names.{known_hash}
 use Rattle.token_check.specs.Fault.{is_certificate}
 
 -- 2.16.840.1.101.3.4.2.1 to 3 with absent or NULL parameters (RFC 5754, 2), and no others

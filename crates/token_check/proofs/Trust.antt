@@ -16,12 +16,13 @@ use Rattle.token_check.specs.declared.fault.Check.{Check}
 use Rattle.token_check.specs.declared.fault.Check.TheVariants as checks
 use Rattle.token_check.specs.declared.fault.TokenFault.{TokenFault}
 use Rattle.token_check.specs.declared.fault.TokenFault.TheVariants as faults
-use Rattle.token_check.specs.Sound.{known_hash, IsStamped, IsSignedBy, IsTrusted}
-use Rattle.token_check.specs.Fault.{is_certificate, authority_fault, signer_fault, hash_fault, trust_fault, Fails}
-use Rattle.token_check.specs.Inside.{Blames, IsTrustFault}
+use Rattle.token_check.specs.Sound.{IsStamped, IsSignedBy, IsTrusted}
+use Rattle.cms_signed.specs.Names.{known_hash}
+use Rattle.token_check.specs.Fault.{is_certificate, authority_fault, signer_fault, hash_fault, trust_fault, Fails, Blames}
+use Rattle.token_check.specs.Inside.{IsTrustFault}
 
 -- the three tests of an authority
-abbrev three : Bool → Bool → Bool → Option Check
+abbrev pub three : Bool → Bool → Bool → Option Check
 three certificate digest signature =
     if not certificate then Some checks.CertHash
     else (if not digest then Some checks.MessageDigest
@@ -66,7 +67,7 @@ module _ (policy : Content) (bytes : List ℕ) (signed : Parts) (info : Tst Mome
   is_later : (c : Check) → IsTrustFault policy signed info c → IsLater (Some c)
   is_later c h = subst IsLater h (later (known_hash info.hash) (signer_of policy signed.sid) signed)
 
-  fails : (c : Check) → IsTrustFault policy signed info c → Fails policy bytes c
+  pub fails : (c : Check) → IsTrustFault policy signed info c → Fails policy bytes c
   fails checks.TooLong h = absurd (is_later checks.TooLong h)
   fails (checks.Cms e) h = absurd (is_later (checks.Cms e) h)
   fails (checks.Tst e) h = absurd (is_later (checks.Tst e) h)

@@ -10,12 +10,15 @@ use Rattle.lms_verify.specs.Hss.{hss_verifies}
 use Rattle.tst_info.specs.declared.fault.TstFault.{TstFault}
 use Rattle.tst_info.specs.declared.fault.TstKind.TheVariants as kinds
 use Rattle.tst_info.specs.Info.{Tst, tst_first_fault}
+use Rattle.cms_signed.specs.Names.{known_hash}
 use Rattle.cms_signed.specs.Signed.{Parts, first_fault, as_set}
 use Rattle.algorithm_policy.specs.declared.signer.Signer.{Signer}
 use Rattle.algorithm_policy.specs.Content.{Content, signer_of}
 use Rattle.token_check.specs.declared.fault.Check.{Check}
 use Rattle.token_check.specs.declared.fault.Check.TheVariants as checks
-use Rattle.token_check.specs.Sound.{longest, known_hash, IsSigned, IsStamped}
+use Rattle.token_check.specs.declared.fault.TokenFault.{TokenFault}
+use Rattle.token_check.specs.declared.fault.TokenFault.TheVariants as faults
+use Rattle.token_check.specs.Sound.{longest, IsSigned, IsStamped}
 
 -- the certificate that is named is the authority's
 abbrev pub is_certificate : Option (List ℕ) → List ℕ → Bool
@@ -50,7 +53,7 @@ pub record HasContentFault (bytes : List ℕ) (fault : TstFault) : Type 0 where
   pub is_signed : IsSigned bytes signed
   pub content : tst_first_fault signed.content ≡ Some fault
 
--- The bytes are a time-stamp that is not trusted under the policy, by this checks.
+-- The bytes are a time-stamp that is not trusted under the policy, by this check.
 pub record HasTrustFault (policy : Content) (bytes : List ℕ) (failed : Check) : Type 0 where
   pub signed : Parts
   pub info : Tst Moment
@@ -72,3 +75,8 @@ Fails policy bytes checks.BadSignature = HasTrustFault policy bytes checks.BadSi
 abbrev pub NoMemory : Check → Type 0
 NoMemory (checks.Tst fault) = fault.kind ≢ kinds.Time times.Memory
 NoMemory c = ⊤
+
+-- The check that is blamed is so; want of memory blames none.
+abbrev pub Blames : (Check → Type 0) → TokenFault → Type 0
+Blames P (faults.Check c) = P c
+Blames P faults.Memory = ⊤

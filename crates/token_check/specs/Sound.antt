@@ -1,22 +1,19 @@
 -- When a time-stamp token is sound under a policy (RFC 3161, 2.2 and 2.4.2; RFC 5652, 5.4 and 5.6; RFC 5816, 2.2;
 -- RFC 8708, 5).
-use Rattle.std.specs.Prelude.{◌≡◌, ℕ, ◌≤◌, List, length, Option, Some, None, if◌then◌else◌}
+use Rattle.std.specs.Prelude.{◌≡◌, ℕ, ◌≤◌, List, length, Option, Some}
+use Rattle.std.specs.Borrow.{Bor}
+use Rattle.std.specs.Option.{option_map}
 use Rattle.civil_moment.specs.declared.moment.Moment.{Moment}
-use Rattle.der_values.specs.Algorithm.{Name}
 use Rattle.hash_kit.specs.declared.algorithm.HashAlg.{HashAlg}
 use Rattle.hash_kit.specs.declared.algorithm.HashAlg.TheVariants.{Sha256}
-use Rattle.hash_kit.specs.Algorithm.{algorithm_of}
 use Rattle.hash_kit.specs.Digest.{digest_of}
 use Rattle.lms_verify.specs.Hss.{Verifies}
 use Rattle.tst_info.specs.Info.{Tst, ReadsTst}
-use Rattle.cms_signed.specs.Names.{are_none_or_null}
+use Rattle.cms_signed.specs.Names.{known_hash}
 use Rattle.cms_signed.specs.Signed.{Parts, ReadsSigned, as_set}
 use Rattle.algorithm_policy.specs.declared.signer.Signer.{Signer}
 use Rattle.algorithm_policy.specs.Content.{Content, signer_of}
-
--- the hash algorithm of a name whose parameters are absent or NULL (RFC 5754, 2)
-abbrev pub known_hash : Name → Option HashAlg
-known_hash name = if are_none_or_null name.params then algorithm_of name.oid else None
+use Rattle.token_check.specs.declared.token.CheckedStamp.{CheckedStamp}
 
 -- What a token says: the hash value of this algorithm was there at this time, by the request of this nonce where there
 -- was one, and the signer of this identifier says so.
@@ -27,6 +24,15 @@ pub record Stamp : Type 0 where
   pub nonce : Option (List ℕ)
   pub sid : List ℕ
 
+-- the bytes, where there are any
+abbrev pub bytes_seen : Option (Bor (List ℕ)) → Option (List ℕ)
+bytes_seen bytes = option_map (λ b. b.now) bytes
+
+-- what a CheckedStamp says
+abbrev pub stamp_seen : CheckedStamp → Stamp
+stamp_seen s = record { alg = s.alg; imprint = s.imprint.now; time = s.time; nonce = bytes_seen s.nonce; sid = s.sid.now }
+
+-- what a time-stamp of this hash algorithm, these parts and this signer says
 abbrev pub stamp_of : HashAlg → Tst Moment → Parts → Stamp
 stamp_of alg info signed = record { alg = alg; imprint = info.imprint; time = info.time; nonce = info.nonce; sid = signed.sid }
 

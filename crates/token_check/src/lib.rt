@@ -3,12 +3,11 @@
 #![tactic(auto)]
 
 mod fault;
-mod hash;
 pub mod laws;
 mod token;
 
+pub use cms_signed::known_hash;
 pub use fault::{Check, ReplyFault, TokenFault};
-pub use hash::known_hash;
 pub use token::{CheckedStamp, check_token};
 
 #[cfg(test)]

@@ -2,7 +2,7 @@ use crate::{Check, TokenFault, check_token};
 use algorithm_policy::read_policy;
 use civil_moment::TimeFault;
 use cms_signed::CmsFault;
-use der_values::{DerFault, DerKind};
+use der_values::{DerFault, DerKind, zeros};
 use hash_kit::HashAlg;
 use std::alloc::{AllocError, Global};
 use std::test::Fail;
@@ -305,10 +305,6 @@ fn a_token_of_an_authority_that_the_policy_lacks_is_by_an_unknown_signer(
     let fault = check_token(rt.alloc(), token(), &policy).err();
     assert_eq!(rt; fault, Some(TokenFault::Check(Check::UnknownSigner)));
     Ok(())
-}
-
-fn zeros(alloc: Global, size: usize) -> Result<Vec<u8>, AllocError> {
-    vec![in alloc; 0u8; size]
 }
 
 // The length is judged before anything else, and 65,536 bytes are not too long.

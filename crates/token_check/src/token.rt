@@ -1,18 +1,17 @@
 ghost use Rattle.std.specs.Prelude.{◌≡◌, ◌⊎◌, ℕ, List, Some, None, Ok, Err, OnOk, IfOk, IfErr, IsOkAnd};
-ghost use Rattle.cms_signed.specs.Inside.{signed_seen};
+ghost use Rattle.cms_signed.specs.Signed.{signed_seen};
 ghost use Rattle.tst_info.specs.Info.{tst_seen, ReadsTst, tst_first_fault};
 ghost use Rattle.algorithm_policy.specs.Content.{Content};
 ghost use Rattle.token_check.specs.declared.fault.Check.{Check};
 ghost use Rattle.token_check.specs.declared.fault.TokenFault.TheVariants as faults;
-ghost use Rattle.token_check.specs.Sound.{Stamp, IsSigned, IsSignedBy, IsTrusted, Sound};
-ghost use Rattle.token_check.specs.Fault.{is_certificate, Fails, NoMemory};
-ghost use Rattle.token_check.specs.Inside.{bytes_seen, stamp_seen, Blames, IsContentFault, IsTrustFault, IsAuthorityFault};
+ghost use Rattle.token_check.specs.Sound.{Stamp, IsSigned, IsSignedBy, IsTrusted, Sound, bytes_seen, stamp_seen};
+ghost use Rattle.token_check.specs.Fault.{is_certificate, Fails, NoMemory, Blames};
+ghost use Rattle.token_check.specs.Inside.{IsContentFault, IsTrustFault, IsAuthorityFault};
 
 use crate::fault::{Check, TokenFault};
-use crate::hash::known_hash;
 use algorithm_policy::{Policy, Signer};
 use civil_moment::{Moment, TimeFault};
-use cms_signed::{Signed, read_signed, signed_bytes};
+use cms_signed::{Signed, known_hash, read_signed, signed_bytes};
 use hash_kit::{HashAlg, HashValue, digest};
 use lms_verify::hss_verify;
 use std::alloc::Global;
@@ -90,7 +89,7 @@ fn checked<'a>(
 }
 
 // The signed time-stamp that the bytes are.
-fn signed_in(bytes: &[u8]) -> Result<Signed<'_>, Check>
+pub(crate) fn signed_in(bytes: &[u8]) -> Result<Signed<'_>, Check>
     ensures signed { IfOk result (λ s. IsSigned bytes.now (signed_seen s)) }
     ensures fault { (policy : Content) → IfErr result (Fails policy bytes.now) }
     ensures apart { IfErr result NoMemory }

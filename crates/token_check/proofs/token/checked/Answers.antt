@@ -1,5 +1,5 @@
 use Rattle.std.proofs.Common.{refl}
-use Rattle.cms_signed.specs.Inside.{signed_seen}
+use Rattle.cms_signed.specs.Signed.{signed_seen}
 use Rattle.tst_info.specs.Info.{tst_seen}
 use Rattle.token_check.specs.Fault.{Fails}
 use Rattle.token_check.proofs.Answered.{check_blames}
