@@ -2,8 +2,9 @@ pub mod Each
 pub mod Parts
 pub mod Spelled
 pub mod Written
-pub mod Anywhere
 pub mod Named
 pub mod Readable
 pub mod ValidParts
+pub mod SizeLemmas
+pub mod LaterValues
 mod StandardFacts

@@ -5,26 +5,26 @@ use Rattle.std.specs.List.{AllByRecursion}
 use Rattle.std.specs.Option.{option_map}
 use Rattle.std.proofs.lemmas.List.{map-id}
 use Rattle.der_values.specs.Value.{value}
-use Rattle.der_values.specs.Typed.{oid_of}
-use Rattle.der_values.specs.Shape.{any_tag, tagged, Check, unchecked, is_oid, checked, Shape, nothing_more, unread, optional, repeated, Parts, spell}
-use Rattle.der_values.specs.Grammar.{Valid}
-use Rattle.der_values.specs.Algorithm.{Name, name_of, AlgorithmParts, algorithm_shape}
-use Rattle.evidence_syntax.specs.Checks.{RecordCheck, not_empty, hash_length, filled_of, hash_length_of}
+use Rattle.der_values.specs.Typed.{IsTagged}
+use Rattle.der_values.specs.Shape.{tagged, Check, unchecked, checked, Shape, nothing_more, unread, repeated, Parts, spell}
+use Rattle.der_values.specs.Algorithm.{Name, name_of, algorithm_shape, IsName}
+use Rattle.der_values.proofs.Written.{name_parts, name_named as named_so}
+use Rattle.der_values.proofs.Anywhere.{Anywhere, AnyValue, PassesHeader, AllValues, nothing_valid, value_anywhere, leaf_anywhere, name_anywhere, repeated_valid}
+use Rattle.evidence_syntax.specs.Checks.{RecordCheck, not_empty, hash_length, filled_of, hash_length_of, record_checks}
 use Rattle.evidence_syntax.specs.Lists.{list_shape, ListParts, lists_shape, lists_of}
-use Rattle.evidence_syntax.specs.Valid.{IsOid, IsOneValue, IsTagged, IsName, IsHash, IsList, IsTree}
-use Rattle.evidence_syntax.proofs.Anywhere.{Anywhere, AnyValue, Passes, value_valid, leaf_valid, required_valid, AllValues, repeated_valid}
+use Rattle.evidence_syntax.specs.Valid.{IsHash, IsList, IsTree}
 
 -- Parts of a value, of which v is named, lead from a state to a state.
 pub record Named (tag : ℕ) (c : Check RecordCheck) (inner : Shape RecordCheck) {V : Type 0} (of : Parts inner → V) (σ : ℕ) (v : V) (τ : ℕ) : Type 0 where
   pub parts : Parts inner
   pub named : of parts ≡ v
-  pub valid : AnyValue tag c inner σ parts τ
+  pub valid : AnyValue record_checks tag c inner σ parts τ
 
 -- the same of one that may be absent
 pub record NamedOption (tag : ℕ) (c : Check RecordCheck) (inner : Shape RecordCheck) {V : Type 0} (of : Parts inner → V) (σ : ℕ) (o : Option V) : Type 0 where
   pub parts : Option (Parts inner)
   pub named : option_map of parts ≡ o
-  pub valid : IfSome parts (λ p. AnyValue tag c inner σ p σ)
+  pub valid : IfSome parts (λ p. AnyValue record_checks tag c inner σ p σ)
 
 pub option_named : (tag : ℕ) (c : Check RecordCheck) (inner : Shape RecordCheck) {V : Type 0} (of : Parts inner → V) (Is : V → Type 0) (σ : ℕ) (o : Option V)
     → ((v : V) → Is v → Named tag c inner of σ v σ) → IfSome o Is → NamedOption tag c inner of σ o
@@ -43,7 +43,7 @@ module _ (tag : ℕ) (c : Check RecordCheck) (inner : Shape RecordCheck) {V : Ty
   pub record NamedList (σ : ℕ) (vs : List V) (τ : ℕ) : Type 0 where
     pub parts : List (Parts inner)
     pub named : map of parts ≡ vs
-    pub valid : AllValues tag c inner σ parts τ
+    pub valid : AllValues record_checks tag c inner σ parts τ
 
   pub list_named : (vs : List V) (σ τ : ℕ) → AllNamed σ vs τ → NamedList σ vs τ
   list_named [] σ τ all = record { parts = []; named = refl; valid = all }
@@ -60,8 +60,12 @@ module _ (tag : ℕ) (c : Check RecordCheck) (inner : Shape RecordCheck) {V : Ty
   abbrev values : Shape RecordCheck
   values = repeated (tagged tag) c inner nothing_more
 
+  pub values_valid : (σ τ : ℕ) (ps : List (Parts inner)) → AllValues record_checks tag c inner σ ps τ → Anywhere record_checks values σ (ps, tt) τ
+  unfolding spell
+  values_valid σ τ ps all = repeated_valid record_checks tag c inner nothing_more σ τ τ ps tt all refl (nothing_valid record_checks τ)
+
   -- that there are some is checked
-  filled : (σ : ℕ) (vs : List V) (ps : List (Parts inner)) → vs ≢ [] → map of ps ≡ vs → (outer : ℕ) → Passes outer (checked not_empty) σ (spell values (ps, tt)) σ
+  filled : (σ : ℕ) (vs : List V) (ps : List (Parts inner)) → vs ≢ [] → map of ps ≡ vs → (outer : ℕ) → PassesHeader record_checks outer (checked not_empty) σ (spell values (ps, tt)) σ
   unfolding spell value filled_of
   filled σ vs [] some named outer place = absurd (some (sym named))
   filled σ vs (p ∷ ps) some named outer place = refl
@@ -72,45 +76,17 @@ module _ (tag : ℕ) (c : Check RecordCheck) (inner : Shape RecordCheck) {V : Ty
       record {
         parts = (l.parts, tt);
         named = l.named;
-        valid = value_valid outer (checked not_empty) values σ σ τ (l.parts, tt) low (filled σ vs l.parts some l.named outer) (repeated_valid tag c inner σ τ l.parts l.valid) (λ place. refl);
+        valid = value_anywhere record_checks outer (checked not_empty) values σ σ τ τ (l.parts, tt) low (filled σ vs l.parts some l.named outer) (values_valid σ τ l.parts l.valid) (λ place. refl);
       }
 
 -- ---- the name of an algorithm
 
-abbrev params_shape : Shape RecordCheck
-params_shape = optional any_tag unchecked unread nothing_more
-
-params_part : (o : Option (List ℕ)) → IfSome o IsOneValue → Option (ℕ × List ℕ)
-params_part None is = None
-params_part (Some bytes) is = Some (is.tag, is.content)
-
-params_named : (o : Option (List ℕ)) (is : IfSome o IsOneValue) → option_map (λ (v : ℕ × List ℕ). value v.0 v.1) (params_part o is) ≡ o
-unfolding params_part
-params_named None is = refl
-params_named (Some bytes) is = ap Some (sym is.spells.is)
-
-params_valid : (o : Option (List ℕ)) (is : IfSome o IsOneValue) (σ : ℕ) → Anywhere params_shape σ (params_part o is, tt) σ
-unfolding params_part Valid spell
-params_valid None is σ short place = (σ, (refl, refl), refl)
-params_valid (Some bytes) is σ short place =
-    (σ, record { before = σ; after = σ; low_tag = is.spells.low_tag; short = is.spells.short; header_passes = refl; inside = refl; end_passes = refl }, refl)
-
-oid_passes : (σ : ℕ) (content : List ℕ) → IsOid content → Passes 6 is_oid σ content σ
-unfolding oid_of
-oid_passes σ [] is place = absurd (is.some refl)
-oid_passes σ (b ∷ bs) is place = rw is.whole refl
-
 pub name_named : (tag : ℕ) → tag % 32 ≢ 31 → (σ : ℕ) (name : Name) → IsName name → Named tag unchecked algorithm_shape name_of σ name σ
-name_named tag low σ name is =
-    let params = params_part name.params is.params in
-    let p : AlgorithmParts = (name.oid, (params, tt)) in
-    record {
-      parts = p;
-      named = λ i. record { oid = name.oid; params = params_named name.params is.params i };
-      valid = value_valid tag unchecked algorithm_shape σ σ σ p low (λ place. refl)
-          (required_valid 6 is_oid unread params_shape σ σ σ name.oid (params, tt) (leaf_valid 6 is_oid σ σ name.oid (λ e. omega arith) (oid_passes σ name.oid is.oid) (λ place. refl)) (params_valid name.params is.params σ))
-          (λ place. refl);
-    }
+name_named tag low σ name is = record {
+  parts = name_parts name is;
+  named = named_so name is;
+  valid = value_anywhere record_checks tag unchecked algorithm_shape σ σ σ σ (name_parts name is) low (λ place. refl) (name_anywhere record_checks σ name is) (λ place. refl);
+}
 
 -- ---- a value that is not looked into
 
@@ -118,12 +94,12 @@ pub tagged_named : (tag : ℕ) (σ : ℕ) (bytes : List ℕ) → IsTagged tag by
 tagged_named tag σ bytes is = record {
   parts = is.content;
   named = sym is.spells.is;
-  valid = leaf_valid tag unchecked σ σ is.content is.spells.low_tag (λ place. refl) (λ place. refl);
+  valid = leaf_anywhere record_checks tag unchecked σ σ σ is.content is.spells.low_tag (λ place. refl) (λ place. refl);
 }
 
 -- ---- the reduced hash tree
 
-hash_passes : (σ : ℕ) (hash : List ℕ) → IsHash hash → Passes 4 (checked hash_length) σ hash σ
+hash_passes : (σ : ℕ) (hash : List ℕ) → IsHash hash → PassesHeader record_checks 4 (checked hash_length) σ hash σ
 unfolding hash_length_of
 hash_passes σ [] is place = absurd (omega (arith, is.0))
 hash_passes σ (b ∷ bs) is place = rw (le-ltb 64 (length (b ∷ bs)) is.1) refl
@@ -132,7 +108,7 @@ hash_named : (σ : ℕ) (hash : List ℕ) → IsHash hash → Named 4 (checked h
 hash_named σ hash is = record {
   parts = hash;
   named = refl;
-  valid = leaf_valid 4 (checked hash_length) σ σ hash (λ e. omega arith) (hash_passes σ hash is) (λ place. refl);
+  valid = leaf_anywhere record_checks 4 (checked hash_length) σ σ σ hash (λ e. omega arith) (hash_passes σ hash is) (λ place. refl);
 }
 
 list_of_hashes : (σ : ℕ) (hashes : List (List ℕ)) → IsList hashes → Named 48 (checked not_empty) list_shape (λ (p : ListParts). p.0) σ hashes σ

@@ -3,24 +3,11 @@ use Rattle.std.proofs.Common.{◌≡◌, ℕ, zero, suc, ◌+◌, ◌<◌, ◌�
 use Rattle.std.specs.Prelude.{map, IfOk}
 use Rattle.std.specs.List.{flat_map}
 use Rattle.std.proofs.lemmas.List.{length-append}
-use Rattle.der_values.specs.Value.{value, length_octets}
+use Rattle.der_values.proofs.Lengths.{front_shorter, back_shorter}
 
 pub if_ok : {T F : Type 0} {P Q : T → Type 0} (r : Result T F) → ((x : T) → P x → Q x) → IfOk r P → IfOk r Q
 if_ok (Ok x) f p = f x p
 if_ok (Err e) f p = tt
-
-pub content_shorter : (tag : ℕ) (content : List ℕ) → length content ≤ length (value tag content)
-unfolding value
-content_shorter tag content = omega (arith, length-append (length_octets (length content)) content)
-
-pub front_shorter : (xs ys : List ℕ) (most : ℕ) → length (xs ++ ys) < most → length xs < most
-front_shorter xs ys most short = omega (arith, length-append xs ys, short)
-
-pub back_shorter : (xs ys : List ℕ) (most : ℕ) → length (xs ++ ys) < most → length ys < most
-back_shorter xs ys most short = omega (arith, length-append xs ys, short)
-
-pub inner_shorter : (tag : ℕ) (content : List ℕ) (most : ℕ) → length (value tag content) < most → length content < most
-inner_shorter tag content most short = omega (arith, content_shorter tag content, short)
 
 module _ {X : Type 0} (text : X → List ℕ) where
   next : (xs : List X) (i : ℕ) (x : X) → i < length xs → x ≡ get_or xs i x → flat_map text (take (suc i) xs) ≡ flat_map text (take i xs) ++ text x
@@ -40,7 +27,7 @@ module _ {X : Type 0} (text : X → List ℕ) where
 
 -- the same of what is seen of the items
 module _ {X Y : Type 0} (view : X → Y) (text : Y → List ℕ) where
-  viewed : (xs : List X) → flat_map text (map view xs) ≡ flat_map (λ x. text (view x)) xs
+  pub viewed : (xs : List X) → flat_map text (map view xs) ≡ flat_map (λ x. text (view x)) xs
   viewed [] = refl
   viewed (x ∷ xs) = ap (λ l. text (view x) ++ l) (viewed xs)
 

@@ -4,20 +4,20 @@ use Rattle.std.specs.List.{AllByRecursion, flat_map}
 use Rattle.std.proofs.lemmas.List.{append-nil}
 use Rattle.std.proofs.lemmas.List.Sums.{sum_by-cons}
 use Rattle.der_values.specs.Value.{value}
-use Rattle.der_values.specs.Typed.{integer_of}
+use Rattle.der_values.specs.Typed.{integer_of, version_of, IsTagged}
 use Rattle.der_values.specs.Shape.{tagged, unchecked, checked, unread, nothing_more, required, optional, spell}
 use Rattle.der_values.specs.Reading.{starts}
 use Rattle.der_values.specs.Grammar.{ValidValue, Valid, Means, from_start}
-use Rattle.der_values.specs.Algorithm.{name_of, algorithm_shape}
-use Rattle.evidence_syntax.specs.Checks.{RecordCheck, version_one, not_empty, stamp_counted, version_of, count_of, record_checks}
+use Rattle.der_values.specs.Algorithm.{name_of, algorithm_shape, IsName}
+use Rattle.der_values.proofs.Lengths.{content_shorter}
+use Rattle.der_values.proofs.Anywhere.{Anywhere, AnyValue, PassesHeader, nothing_valid, value_anywhere, leaf_anywhere, required_valid, optional_valid}
+use Rattle.evidence_syntax.specs.Checks.{RecordCheck, version_one, not_empty, stamp_counted, count_of, record_checks}
 use Rattle.evidence_syntax.specs.Lists.{ListsParts, lists_shape, lists_of}
 use Rattle.evidence_syntax.specs.Stamps.{Stamp, stamp_shape, StampParts, stamp_of, chain_shape, chain_of, sequence_shape, SequenceParts, chains_of, SpellsSequence, sequence_alone}
 use Rattle.evidence_syntax.specs.Record.{EvidenceRecord, algorithms_shape, AlgorithmsParts, record_contents_shape, RecordParts, record_shape, record_of, Spells}
 use Rattle.evidence_syntax.specs.Text.{chain_text, sequence_spelling, record_contents, record_spelling}
-use Rattle.evidence_syntax.specs.Valid.{IsTagged, IsName, IsTree, IsStamp, IsChain, stamps_in, IsSequence, IsRecord}
-use Rattle.evidence_syntax.proofs.Parts.{content_shorter}
-use Rattle.evidence_syntax.proofs.Anywhere.{Anywhere, AnyValue, Passes, nothing_valid, value_valid, leaf_valid, required_valid, optional_valid, repeated_valid}
-use Rattle.evidence_syntax.proofs.Named.{Named, option_named, AllNamed, list_named, each_named, filled_named, name_named, tagged_named, tree_named}
+use Rattle.evidence_syntax.specs.Valid.{IsTree, IsStamp, IsChain, stamps_in, IsSequence, IsRecord}
+use Rattle.evidence_syntax.proofs.Named.{Named, option_named, AllNamed, list_named, each_named, filled_named, name_named, tagged_named, tree_named, values_valid}
 use Rattle.evidence_syntax.proofs.Spelled.{sequence_contents, sequence_spelled, contents_spelled}
 
 -- ---- an archive time-stamp
@@ -39,7 +39,7 @@ no_lists : (token : List ℕ) → starts (tagged 162) (spell {C = RecordCheck} (
 unfolding spell value
 no_lists token = refl
 
-counted : (stamps : ℕ) (content : List ℕ) → stamps < 200 → Passes 48 (checked stamp_counted) stamps content (stamps + 1)
+counted : (stamps : ℕ) (content : List ℕ) → stamps < 200 → PassesHeader record_checks 48 (checked stamp_counted) stamps content (stamps + 1)
 unfolding count_of
 counted stamps content few place = rw (lt-ltb stamps 200 few) refl
 
@@ -54,11 +54,11 @@ stamp_named stamps s is few =
     record {
       parts = p;
       named = λ i. record { algorithm = algorithm.named i; attributes = attributes.named i; lists = lists.named i; token = token.named i };
-      valid = value_valid 48 (checked stamp_counted) stamp_shape stamps n n p (λ e. omega arith) (counted stamps (spell stamp_shape p) few)
-          (optional_valid 160 unchecked algorithm_shape _ n n algorithm.parts (attributes.parts, (lists.parts, (token.parts, tt))) algorithm.valid (no_algorithm attributes.parts lists.parts token.parts)
-          (optional_valid 161 unchecked unread _ n n attributes.parts (lists.parts, (token.parts, tt)) attributes.valid (no_attributes lists.parts token.parts)
-          (optional_valid 162 (checked not_empty) lists_shape _ n n lists.parts (token.parts, tt) lists.valid (no_lists token.parts)
-          (required_valid 48 unchecked unread nothing_more n n n token.parts tt token.valid (nothing_valid n)))))
+      valid = value_anywhere record_checks 48 (checked stamp_counted) stamp_shape stamps n n n p (λ e. omega arith) (counted stamps (spell stamp_shape p) few)
+          (optional_valid record_checks 160 unchecked algorithm_shape _ n n algorithm.parts (attributes.parts, (lists.parts, (token.parts, tt))) algorithm.valid (no_algorithm attributes.parts lists.parts token.parts)
+          (optional_valid record_checks 161 unchecked unread _ n n attributes.parts (lists.parts, (token.parts, tt)) attributes.valid (no_attributes lists.parts token.parts)
+          (optional_valid record_checks 162 (checked not_empty) lists_shape _ n n lists.parts (token.parts, tt) lists.valid (no_lists token.parts)
+          (required_valid record_checks 48 unchecked unread nothing_more n n n token.parts tt token.valid (nothing_valid record_checks n)))))
           (λ place. refl);
     }
 
@@ -121,7 +121,7 @@ no_encryption : (sequence : SequenceParts) → starts (tagged 161) (spell (requi
 unfolding spell value
 no_encryption sequence = refl
 
-version_passes : Passes 2 (checked version_one) 0 (1 ∷ []) 0
+version_passes : PassesHeader record_checks 2 (checked version_one) 0 (1 ∷ []) 0
 unfolding version_of integer_of
 version_passes place = refl
 
@@ -148,13 +148,13 @@ record_readable r is =
     let named : record_of p ≡ r = λ i. record { algorithms = names.named i; crypto = crypto.named i; encryption = encryption.named i; chains = sequence.named i } in
     let spelled : spell record_contents_shape p ≡ record_contents r = contents_spelled p refl ∙ ap record_contents named in
     let short : length (spell record_contents_shape p) < 2 ^ 32 = omega (arith, is.short, content_shorter 48 (record_contents r), ap length spelled) in
-    let contents : Anywhere record_contents_shape 0 p end =
-    required_valid 2 (checked version_one) unread _ 0 0 end (1 ∷ []) (algorithms, (crypto.parts, (encryption.parts, (sequence.parts, tt))))
-    (leaf_valid 2 (checked version_one) 0 0 (1 ∷ []) (λ e. omega arith) version_passes (λ place. refl))
-    (required_valid 48 unchecked algorithms_shape _ 0 0 end algorithms (crypto.parts, (encryption.parts, (sequence.parts, tt)))
-    (value_valid 48 unchecked algorithms_shape 0 0 0 algorithms (λ e. omega arith) (λ place. refl) (repeated_valid 48 unchecked algorithm_shape 0 0 names.parts names.valid) (λ place. refl))
-    (optional_valid 160 unchecked unread _ 0 end crypto.parts (encryption.parts, (sequence.parts, tt)) crypto.valid (no_crypto encryption.parts sequence.parts)
-    (optional_valid 161 unchecked unread _ 0 end encryption.parts (sequence.parts, tt) encryption.valid (no_encryption sequence.parts)
-    (required_valid 48 (checked not_empty) sequence_shape nothing_more 0 end end sequence.parts tt sequence.valid (nothing_valid end))))) in
-    let whole : AnyValue 48 unchecked record_contents_shape 0 p end = value_valid 48 unchecked record_contents_shape 0 0 end p (λ e. omega arith) (λ place. refl) contents (λ place. refl) in
+    let contents : Anywhere record_checks record_contents_shape 0 p end =
+    required_valid record_checks 2 (checked version_one) unread _ 0 0 end (1 ∷ []) (algorithms, (crypto.parts, (encryption.parts, (sequence.parts, tt))))
+    (leaf_anywhere record_checks 2 (checked version_one) 0 0 0 (1 ∷ []) (λ e. omega arith) version_passes (λ place. refl))
+    (required_valid record_checks 48 unchecked algorithms_shape _ 0 0 end algorithms (crypto.parts, (encryption.parts, (sequence.parts, tt)))
+    (value_anywhere record_checks 48 unchecked algorithms_shape 0 0 0 0 algorithms (λ e. omega arith) (λ place. refl) (values_valid 48 unchecked algorithm_shape name_of 0 0 names.parts names.valid) (λ place. refl))
+    (optional_valid record_checks 160 unchecked unread _ 0 end crypto.parts (encryption.parts, (sequence.parts, tt)) crypto.valid (no_crypto encryption.parts sequence.parts)
+    (optional_valid record_checks 161 unchecked unread _ 0 end encryption.parts (sequence.parts, tt) encryption.valid (no_encryption sequence.parts)
+    (required_valid record_checks 48 (checked not_empty) sequence_shape nothing_more 0 end end sequence.parts tt sequence.valid (nothing_valid record_checks end))))) in
+    let whole : AnyValue record_checks 48 unchecked record_contents_shape 0 p end = value_anywhere record_checks 48 unchecked record_contents_shape 0 0 end end p (λ e. omega arith) (λ place. refl) contents (λ place. refl) in
     record { short = is.short; means = meant r p end (whole short 0) named spelled }

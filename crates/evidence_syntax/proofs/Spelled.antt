@@ -1,35 +1,28 @@
 -- What the parts of the table spell is the spelling of what is named of them.
-use Rattle.std.proofs.Common.{◌≡◌, ℕ, ◌==◌, Bool, true, false, List, [], ◌∷◌, ◌++◌, Option, Some, None, Ok, Err, refl, sym, ap, ◌∙◌, append_assoc, append-nil, arith, if◌then◌else◌}
+use Rattle.std.proofs.Common.{◌≡◌, ℕ, List, [], ◌∷◌, ◌++◌, Option, Some, None, Ok, refl, sym, ap, ◌∙◌, append_assoc, append-nil}
 use Rattle.std.specs.Prelude.{map}
 use Rattle.std.specs.List.{flat_map}
 use Rattle.std.specs.Option.{option_map}
-use Rattle.std.proofs.lemmas.Bool.Decides.{nat_tests}
-use Rattle.der_values.specs.declared.fault.DerKind.TheVariants.{NotMinimal}
-use Rattle.der_values.specs.Value.{value}
-use Rattle.der_values.specs.Steps.{◌>>=◌, lift}
-use Rattle.der_values.specs.Typed.{has_excess, integer_of}
+use Rattle.der_values.specs.Value.{value, bytes_or_none}
+use Rattle.der_values.specs.Steps.{◌>>=◌}
 use Rattle.der_values.specs.Shape.{spell_optional, spell}
 use Rattle.der_values.specs.Grammar.{Valid}
 use Rattle.der_values.specs.Algorithm.{name_of, AlgorithmParts, algorithm_shape}
+use Rattle.der_values.proofs.Values.{bind_ok}
 use Rattle.der_values.proofs.Written.{item}
+use Rattle.der_values.proofs.Accepted.{version_is as only_one, name_again}
+use Rattle.evidence_syntax.specs.declared.fault.SyntaxFault.TheVariants.{At}
 use Rattle.evidence_syntax.specs.declared.fault.SyntaxKind.TheVariants.{Version}
-use Rattle.evidence_syntax.specs.Checks.{RecordCheck, version_of, is_one, der, syntax_fault}
+use Rattle.evidence_syntax.specs.Checks.{RecordCheck, version_at, der}
 use Rattle.evidence_syntax.specs.Lists.{ListParts, ListsParts, list_shape, lists_shape, lists_of}
 use Rattle.evidence_syntax.specs.Stamps.{StampParts, ChainParts, SequenceParts, stamp_shape, chain_shape, sequence_shape, stamp_of, chain_of, chains_of}
 use Rattle.evidence_syntax.specs.Record.{EvidenceRecord, AlgorithmsParts, RecordParts, algorithms_shape, record_contents_shape, algorithms_of, record_of, Spells}
-use Rattle.evidence_syntax.specs.Text.{bytes_or_none, name_text, identifier_text, algorithm_text, list_text, tree_text, stamp_text, chain_text, sequence_spelling, names_text, record_contents, record_spelling}
+use Rattle.evidence_syntax.specs.Text.{identifier_text, algorithm_text, list_text, tree_text, stamp_text, chain_text, sequence_spelling, names_text, record_contents, record_spelling}
 
-version_is : (place : ℕ) (content : List ℕ) (σ τ : ℕ) → (version_of (item place 2 content) >>= λ u. Ok σ) ≡ Ok τ → content ≡ 1 ∷ []
-unfolding version_of integer_of
-version_is place [] σ τ e = absurd cc
-version_is place (b ∷ []) σ τ e = by_one (b == 1) refl e where
-  by_one : (x : Bool) → (b == 1) ≡ x → ((if x then Ok (tt {0}) else syntax_fault place Version) >>= λ u. Ok σ) ≡ Ok τ → b ∷ [] ≡ 1 ∷ []
-  by_one true is e = let same : b ≡ 1 = grind (arith, nat_tests) in ap (λ n. n ∷ []) same
-  by_one false is e = absurd cc
-version_is place (a ∷ b ∷ bs) σ τ e = by_excess (has_excess (a ∷ b ∷ bs)) e where
-  by_excess : (x : Bool) → ((lift der (if x then Err (record { place = place; kind = NotMinimal }) else Ok (a ∷ b ∷ bs)) >>= λ (c : List ℕ). if is_one c then Ok (tt {0}) else syntax_fault place Version) >>= λ u. Ok σ) ≡ Ok τ → a ∷ b ∷ bs ≡ 1 ∷ []
-  by_excess true e = absurd cc
-  by_excess false e = absurd cc
+version_is : (place : ℕ) (content : List ℕ) (σ τ : ℕ) → (version_at (item place 2 content) >>= λ u. Ok σ) ≡ Ok τ → content ≡ 1 ∷ []
+version_is place content σ τ e =
+    let checked = bind_ok (version_at (item place 2 content)) (λ u. Ok σ) τ e in
+    only_one der (At place Version) place content checked.0 checked.1
 
 -- ---- lists of parts
 
@@ -41,14 +34,9 @@ passed_spelled : (tag : ℕ) (o : Option (List ℕ)) → spell_optional (λ (b :
 passed_spelled tag None = refl
 passed_spelled tag (Some b) = refl
 
-name_spelled : (p : AlgorithmParts) → spell {C = RecordCheck} algorithm_shape p ≡ name_text (name_of p)
-unfolding spell
-name_spelled (oid, (None, u)) = refl
-name_spelled (oid, (Some v, u)) = ap (λ params. value 6 oid ++ params) (append-nil (value v.0 v.1))
-
 names_spelled : (p : AlgorithmsParts) → spell algorithms_shape p ≡ flat_map identifier_text (algorithms_of p)
 unfolding spell
-names_spelled p = all_spelled (λ (q : AlgorithmParts). value 48 (spell {C = RecordCheck} algorithm_shape q)) identifier_text name_of (λ q. ap (λ t. value 48 t) (name_spelled q)) p.0
+names_spelled p = all_spelled (λ (q : AlgorithmParts). value 48 (spell {C = RecordCheck} algorithm_shape q)) identifier_text name_of (λ q. ap (λ t. value 48 t) (name_again RecordCheck q)) p.0
 
 list_spelled : (p : ListParts) → value 48 (spell list_shape p) ≡ list_text p.0
 unfolding spell
@@ -60,7 +48,7 @@ lists_spelled p = all_spelled (λ (q : ListParts). value 48 (spell list_shape q)
 
 algorithm_spelled : (o : Option AlgorithmParts) → spell_optional (λ (p : AlgorithmParts). value 160 (spell {C = RecordCheck} algorithm_shape p)) o ≡ algorithm_text (option_map name_of o)
 algorithm_spelled None = refl
-algorithm_spelled (Some p) = ap (λ t. value 160 t) (name_spelled p)
+algorithm_spelled (Some p) = ap (λ t. value 160 t) (name_again RecordCheck p)
 
 tree_spelled : (o : Option ListsParts) → spell_optional (λ (p : ListsParts). value 162 (spell lists_shape p)) o ≡ tree_text (option_map lists_of o)
 tree_spelled None = refl

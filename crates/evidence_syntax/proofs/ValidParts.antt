@@ -6,25 +6,25 @@ use Rattle.std.specs.Option.{option_map}
 use Rattle.std.proofs.lemmas.List.{length-map, map-id}
 use Rattle.std.proofs.lemmas.List.Sums.{sum_by-cons}
 use Rattle.der_values.specs.declared.fault.DerFault.{DerFault}
-use Rattle.der_values.specs.declared.fault.DerKind.TheVariants.{BadValue}
 use Rattle.der_values.specs.Input.{Item}
 use Rattle.der_values.specs.Value.{value}
 use Rattle.der_values.specs.Steps.{◌>>=◌}
-use Rattle.der_values.specs.Typed.{are_subidentifiers, oid_of}
-use Rattle.der_values.specs.Shape.{Tags, any_tag, tagged, Check, unchecked, is_integer, is_boolean, is_oid, checked, checked_whole, Shape, nothing_more, unread, required, optional, repeated, checkpoint, depending, Part, Parts, spell_part, spell}
+use Rattle.der_values.specs.Typed.{oid_of, IsTagged}
+use Rattle.der_values.specs.Shape.{Tags, tagged, Check, unchecked, is_integer, is_boolean, is_oid, checked, checked_whole, Shape, nothing_more, unread, required, optional, repeated, checkpoint, depending, Part, Parts, spell_part, spell}
 use Rattle.der_values.specs.Reading.{at_header, at_end, passes}
 use Rattle.der_values.specs.Grammar.{Leading, ValidValue, ValidOptional, ValidAll, Valid}
-use Rattle.der_values.specs.Algorithm.{name_of, AlgorithmParts, algorithm_shape}
+use Rattle.der_values.specs.Algorithm.{name_of, AlgorithmParts, algorithm_shape, IsName}
 use Rattle.der_values.proofs.Values.{ok_is}
 use Rattle.der_values.proofs.Written.{item}
+use Rattle.der_values.proofs.Accepted.{name_is}
 use Rattle.evidence_syntax.specs.declared.fault.SyntaxFault.{SyntaxFault}
 use Rattle.evidence_syntax.specs.declared.fault.SyntaxKind.TheVariants.{ValueLength, TooMany}
-use Rattle.evidence_syntax.specs.Checks.{RecordCheck, version_one, not_empty, hash_length, stamp_counted, der, syntax_fault, version_of, filled_of, hash_length_of, count_of, record_checks}
+use Rattle.evidence_syntax.specs.Checks.{RecordCheck, version_one, not_empty, hash_length, stamp_counted, der, syntax_fault, version_at, filled_of, hash_length_of, count_of, record_checks}
 use Rattle.evidence_syntax.specs.Lists.{list_shape, ListParts, lists_shape, ListsParts, lists_of}
 use Rattle.evidence_syntax.specs.Stamps.{Stamp, stamp_shape, StampParts, stamp_of, chain_shape, ChainParts, chain_of, sequence_shape, SequenceParts, chains_of}
-use Rattle.evidence_syntax.specs.Record.{EvidenceRecord, algorithms_shape, longest, Spells}
+use Rattle.evidence_syntax.specs.Record.{EvidenceRecord, algorithms_shape, longest_record, Spells}
 use Rattle.evidence_syntax.specs.Text.{record_spelling}
-use Rattle.evidence_syntax.specs.Valid.{IsOid, IsOneValue, IsTagged, IsName, IsHash, IsList, IsTree, IsStamp, IsChain, stamps_in, IsSequence, IsRecord}
+use Rattle.evidence_syntax.specs.Valid.{IsHash, IsList, IsTree, IsStamp, IsChain, stamps_in, IsSequence, IsRecord}
 use Rattle.evidence_syntax.proofs.Spelled.{one_spelling}
 
 -- ---- archive time-stamps alone change the state
@@ -62,7 +62,7 @@ header_keeps unchecked quiet σ v τ e = sym (ok_is {F = SyntaxFault} σ τ e)
 header_keeps is_integer quiet σ v τ e = absurd quiet
 header_keeps is_boolean quiet σ v τ e = absurd quiet
 header_keeps is_oid quiet σ v τ e = passed_keeps σ τ (oid_of v) e
-header_keeps (checked version_one) quiet σ v τ e = judged_keeps σ τ (version_of v) e
+header_keeps (checked version_one) quiet σ v τ e = judged_keeps σ τ (version_at v) e
 header_keeps (checked not_empty) quiet σ v τ e = judged_keeps σ τ (filled_of v) e
 header_keeps (checked hash_length) quiet σ v τ e = judged_keeps σ τ (hash_length_of v) e
 header_keeps (checked stamp_counted) quiet σ v τ e = absurd quiet
@@ -131,25 +131,8 @@ tagged_is tag σ place content τ v = record { content = content; spells = recor
 
 -- ---- the name of an algorithm
 
-oid_is : (σ place : ℕ) (content : List ℕ) (τ : ℕ) → at_header record_checks is_oid σ (item place 6 content) ≡ Ok τ → IsOid content
-unfolding oid_of
-oid_is σ place [] τ e = absurd cc
-oid_is σ place (b ∷ bs) τ e = by_whole (are_subidentifiers true (b ∷ bs)) refl e where
-  by_whole : (x : Bool) → are_subidentifiers true (b ∷ bs) ≡ x → passes der σ (if x then Ok (b ∷ bs) else Err (record { place = place; kind = BadValue })) ≡ Ok τ → IsOid (b ∷ bs)
-  by_whole true is e = record { some = λ f. cc; whole = is }
-  by_whole false is e = absurd cc
-
-params_is : (taken : Bool) (σ place : ℕ) (o : Option (ℕ × List ℕ)) (τ : ℕ) → ValidOptional (ValidValue record_checks any_tag unchecked (Valid record_checks unread) (spell {C = RecordCheck} unread)) taken σ place o τ
-    → IfSome (option_map (λ (v : ℕ × List ℕ). value v.0 v.1) o) IsOneValue
-unfolding spell
-params_is taken σ place None τ v = tt
-params_is taken σ place (Some p) τ v = record { tag = p.0; content = p.1; spells = record { low_tag = v.low_tag; short = v.short; is = refl } }
-
-name_is : (tag σ place : ℕ) (p : AlgorithmParts) (τ : ℕ) → ValidValue record_checks (tagged tag) unchecked (Valid record_checks algorithm_shape) (spell {C = RecordCheck} algorithm_shape) σ place p τ → IsName (name_of p)
-unfolding Valid spell
-name_is tag σ place p τ v =
-    let oid = v.inside.1 in
-    record { oid = oid_is _ _ p.0 _ oid.header_passes; params = params_is _ _ _ p.1.0 _ v.inside.2.1 }
+algorithm_is : (tag σ place : ℕ) (p : AlgorithmParts) (τ : ℕ) → ValidValue record_checks (tagged tag) unchecked (Valid record_checks algorithm_shape) (spell {C = RecordCheck} algorithm_shape) σ place p τ → IsName (name_of p)
+algorithm_is tag σ place p τ v = name_is record_checks v.before _ p v.after v.inside
 
 -- ---- the reduced hash tree
 
@@ -188,7 +171,7 @@ stamp_is σ place p τ v =
     let lists = attributes.2 in
     let token = lists.2 in
     record {
-      algorithm = option_is 160 unchecked algorithm_shape name_of IsName (name_is 160) _ _ _ p.0 _ v.inside.1;
+      algorithm = option_is 160 unchecked algorithm_shape name_of IsName (algorithm_is 160) _ _ _ p.0 _ v.inside.1;
       attributes = option_is 161 unchecked unread (λ (b : List ℕ). value 161 b) (IsTagged 161) (tagged_is 161) _ _ _ p.1.0 _ attributes.1;
       lists = option_is 162 (checked not_empty) lists_shape lists_of IsTree tree_is _ _ _ p.1.1.0 _ lists.1;
       token = tagged_is 48 _ _ p.1.1.1.0 _ token.1;
@@ -277,9 +260,9 @@ record_is bytes r s =
     ∙ value_keeps (tagged 2) (checked version_one) tt (Valid record_checks unread) (spell {C = RecordCheck} unread) (keeps unread tt) _ _ p.0 version.0 version.1
     ∙ sym (ok_is {F = SyntaxFault} 0 v.before v.header_passes) in
     subst IsRecord m.named (record {
-      algorithms = all_are 48 unchecked algorithm_shape name_of IsName (name_is 48) p.1.0.0 _ _ _ names.1.inside.1;
+      algorithms = all_are 48 unchecked algorithm_shape name_of IsName (algorithm_is 48) p.1.0.0 _ _ _ names.1.inside.1;
       crypto = option_is 160 unchecked unread (λ (b : List ℕ). value 160 b) (IsTagged 160) (tagged_is 160) _ _ _ p.1.1.0 _ crypto.1;
       encryption = option_is 161 unchecked unread (λ (b : List ℕ). value 161 b) (IsTagged 161) (tagged_is 161) _ _ _ p.1.1.1.0 _ encryption.1;
       sequence = sequence_is _ _ p.1.1.1.1.0 _ zero sequence.1;
-      short = subst (λ (t : List ℕ). length t ≤ longest) (one_spelling bytes r s ∙ ap record_spelling (sym m.named)) s.short;
+      short = subst (λ (t : List ℕ). length t ≤ longest_record) (one_spelling bytes r s ∙ ap record_spelling (sym m.named)) s.short;
     })

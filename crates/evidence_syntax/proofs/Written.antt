@@ -1,10 +1,11 @@
 -- A record that was read can be written, and so can any number of its first chains.
 use Rattle.std.proofs.Common.{ℕ, ◌<◌, ◌^◌, List, [], ◌∷◌, length, take, ap, arith}
 use Rattle.std.specs.List.{flat_map}
-use Rattle.der_values.specs.Value.{value}
+use Rattle.der_values.specs.Value.{value, bytes_or_none}
+use Rattle.der_values.proofs.Lengths.{content_shorter, inner_shorter}
 use Rattle.evidence_syntax.specs.Record.{EvidenceRecord, Spells}
-use Rattle.evidence_syntax.specs.Text.{bytes_or_none, chain_text, names_text, sequence_spelling, record_contents}
-use Rattle.evidence_syntax.proofs.Parts.{content_shorter, five_shorter, inner_shorter, front_no_longer}
+use Rattle.evidence_syntax.specs.Text.{chain_text, names_text, sequence_spelling, record_contents}
+use Rattle.evidence_syntax.proofs.Parts.{five_shorter, front_no_longer}
 use Rattle.evidence_syntax.proofs.Spelled.{one_spelling}
 
 pub record_fits : (bytes : List ℕ) (r : EvidenceRecord) → Spells bytes r → length (record_contents r) < 2 ^ 32

@@ -46,15 +46,19 @@ pub record EvidenceRecord : Type 0 where
   pub encryption : Option (List ℕ)
   pub chains : List (List Stamp)
 
+-- what a reading of the names of hashes gives
 abbrev pub AlgorithmsParts : Type 0
 AlgorithmsParts = List AlgorithmParts × Unit {0}
 
+-- what a reading of a record gives
 abbrev pub RecordParts : Type 0
 RecordParts = List ℕ × (AlgorithmsParts × (Option (List ℕ) × (Option (List ℕ) × (SequenceParts × Unit {0}))))
 
+-- the names that these parts say
 abbrev pub algorithms_of : AlgorithmsParts → List Name
 algorithms_of p = map name_of p.0
 
+-- the record that these parts say
 abbrev pub record_of : RecordParts → EvidenceRecord
 record_of p = record {
   algorithms = algorithms_of p.1.0;
@@ -63,6 +67,7 @@ record_of p = record {
   chains = chains_of p.1.1.1.1.0;
 }
 
+-- what an EvRecord says
 abbrev pub record_seen : EvRecord → EvidenceRecord
 record_seen r = record {
   algorithms = map name_seen r.algorithms;
@@ -74,13 +79,14 @@ record_seen r = record {
 -- ---- its grammar and its first fault
 
 -- the most bytes of a record
-abbrev pub longest : ℕ
-longest = 2 ^ 24
+abbrev pub longest_record : ℕ
+longest_record = 2 ^ 24
 
 -- The bytes are an evidence record with these parts, within the limits.
 pub record Spells (bytes : List ℕ) (r : EvidenceRecord) : Type 0 where
-  pub short : length bytes ≤ longest
+  pub short : length bytes ≤ longest_record
   pub means : Means record_checks record_shape 0 (λ p stamps. record_of p.0) (from_start bytes) r
 
+-- the first fault of the bytes as a record: that they are too many, then from the left; or none
 abbrev pub record_first_fault : List ℕ → Option SyntaxFault
-record_first_fault bytes = if nat_lt longest (length bytes) then Some (At 0 TooLong) else first record_checks record_shape 0 (from_start bytes)
+record_first_fault bytes = if nat_lt longest_record (length bytes) then Some (At 0 TooLong) else first record_checks record_shape 0 (from_start bytes)

@@ -6,19 +6,16 @@
 --     attributes      [1] Attributes OPTIONAL,
 --     reducedHashtree [2] SEQUENCE OF PartialHashtree OPTIONAL,
 --     timeStamp       ContentInfo }
-use Rattle.std.specs.Prelude.{ℕ, List, length, map, Option}
+use Rattle.std.specs.Prelude.{ℕ, List, map, Option}
 use Rattle.std.specs.Option.{option_map}
-use Rattle.der_values.specs.Input.{Input, Item}
 use Rattle.der_values.specs.Value.{value}
 use Rattle.der_values.specs.Shape.{tagged, unchecked, checked, Shape, nothing_more, unread, required, optional, repeated}
-use Rattle.der_values.specs.Reading.{Reading, body, body_optional, read_each, read}
 use Rattle.der_values.specs.Grammar.{Means, from_start}
 use Rattle.der_values.specs.Algorithm.{Name, name_of, name_seen, algorithm_shape, AlgorithmParts}
-use Rattle.evidence_syntax.specs.declared.fault.SyntaxFault.{SyntaxFault}
 use Rattle.evidence_syntax.specs.declared.stamps.Ats.{Ats}
 use Rattle.evidence_syntax.specs.declared.stamps.Chain.{Chain}
-use Rattle.evidence_syntax.specs.Checks.{RecordCheck, not_empty, stamp_counted, der, record_checks}
-use Rattle.evidence_syntax.specs.Lists.{lists_shape, ListsParts, lists_of, lists_at}
+use Rattle.evidence_syntax.specs.Checks.{RecordCheck, not_empty, stamp_counted, record_checks}
+use Rattle.evidence_syntax.specs.Lists.{lists_shape, ListsParts, lists_of}
 
 -- ---- the tables; attributes and the time-stamp are not looked into
 
@@ -46,15 +43,19 @@ pub record Stamp : Type 0 where
   pub lists : Option (List (List (List ℕ)))
   pub token : List ℕ
 
+-- what a reading of an archive time-stamp gives
 abbrev pub StampParts : Type 0
 StampParts = Option AlgorithmParts × (Option (List ℕ) × (Option ListsParts × (List ℕ × Unit {0})))
 
+-- what a reading of a chain gives
 abbrev pub ChainParts : Type 0
 ChainParts = List StampParts × Unit {0}
 
+-- what a reading of the sequence of chains gives
 abbrev pub SequenceParts : Type 0
 SequenceParts = List ChainParts × Unit {0}
 
+-- the archive time-stamp that these parts say
 abbrev pub stamp_of : StampParts → Stamp
 stamp_of p = record {
   algorithm = option_map name_of p.0;
@@ -63,14 +64,17 @@ stamp_of p = record {
   token = value 48 p.1.1.1.0;
 }
 
+-- the archive time-stamps of a chain
 abbrev pub chain_of : ChainParts → List Stamp
 chain_of p = map stamp_of p.0
 
+-- the archive time-stamps of each chain
 abbrev pub chains_of : SequenceParts → List (List Stamp)
 chains_of p = map chain_of p.0
 
 -- ---- the grammar of a sequence that stands alone
 
+-- an ArchiveTimeStampSequence, and nothing behind it
 abbrev pub sequence_alone : Shape RecordCheck
 sequence_alone = required (tagged 48) (checked not_empty) sequence_shape nothing_more
 
@@ -93,29 +97,3 @@ chain_seen c = map stamp_seen c.stamps
 
 abbrev pub chains_seen : List Chain → List (List Stamp)
 chains_seen cs = map chain_seen cs
-
--- ---- the readings of parts of the tables
-
-abbrev pub algorithm_at : ℕ → Option Item → Reading (Option AlgorithmParts) ℕ SyntaxFault
-algorithm_at stamps v = body_optional (body record_checks (tagged 160) unchecked (read record_checks algorithm_shape)) stamps v
-
-abbrev pub tree_at : ℕ → Option Item → Reading (Option ListsParts) ℕ SyntaxFault
-tree_at stamps v = body_optional lists_at stamps v
-
-abbrev pub stamp_contents_at : ℕ → Input → Reading StampParts ℕ SyntaxFault
-stamp_contents_at stamps input = read record_checks stamp_shape stamps input
-
-abbrev pub stamp_at : ℕ → Item → Reading StampParts ℕ SyntaxFault
-stamp_at stamps v = body record_checks (tagged 48) (checked stamp_counted) (read record_checks stamp_shape) stamps v
-
-abbrev pub each_stamp : ℕ → Input → Reading (List StampParts) ℕ SyntaxFault
-each_stamp stamps input = read_each der (tagged 48) stamp_at (length input.left) stamps input
-
-abbrev pub chain_at : ℕ → Item → Reading ChainParts ℕ SyntaxFault
-chain_at stamps v = body record_checks (tagged 48) (checked not_empty) (read record_checks chain_shape) stamps v
-
-abbrev pub each_chain : ℕ → Input → Reading (List ChainParts) ℕ SyntaxFault
-each_chain stamps input = read_each der (tagged 48) chain_at (length input.left) stamps input
-
-abbrev pub sequence_at : ℕ → Item → Reading SequenceParts ℕ SyntaxFault
-sequence_at stamps v = body record_checks (tagged 48) (checked not_empty) (read record_checks sequence_shape) stamps v

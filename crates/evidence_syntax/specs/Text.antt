@@ -1,25 +1,17 @@
 -- How the parts of an evidence record are spelled (RFC 4998, 3.1, 4.1 and 5.1, by the module with implicit tags).
 use Rattle.std.specs.Prelude.{ℕ, List, [], ◌∷◌, ◌++◌, Option, Some, None}
 use Rattle.std.specs.List.{flat_map}
-use Rattle.der_values.specs.Value.{value}
-use Rattle.der_values.specs.Algorithm.{Name}
+use Rattle.der_values.specs.Value.{value, bytes_or_none}
+use Rattle.der_values.specs.Algorithm.{Name, name_contents}
 use Rattle.evidence_syntax.specs.Stamps.{Stamp}
 use Rattle.evidence_syntax.specs.Record.{EvidenceRecord}
 
 -- ---- the spellings
 
-abbrev pub bytes_or_none : Option (List ℕ) → List ℕ
-bytes_or_none None = []
-bytes_or_none (Some bytes) = bytes
-
--- the contents of an AlgorithmIdentifier (RFC 5280, 4.1.1.2)
-abbrev pub name_text : Name → List ℕ
-name_text name = value 6 name.oid ++ bytes_or_none name.params
-
 -- [0] AlgorithmIdentifier OPTIONAL
 abbrev pub algorithm_text : Option Name → List ℕ
 algorithm_text None = []
-algorithm_text (Some name) = value 160 (name_text name)
+algorithm_text (Some name) = value 160 (name_contents name)
 
 -- PartialHashtree
 abbrev pub list_text : List (List ℕ) → List ℕ
@@ -30,6 +22,7 @@ abbrev pub tree_text : Option (List (List (List ℕ))) → List ℕ
 tree_text None = []
 tree_text (Some lists) = value 162 (flat_map list_text lists)
 
+-- the contents of an ArchiveTimeStamp
 abbrev pub stamp_contents : Stamp → List ℕ
 stamp_contents s = algorithm_text s.algorithm ++ bytes_or_none s.attributes ++ tree_text s.lists ++ s.token
 
@@ -47,12 +40,13 @@ sequence_spelling chains = value 48 (flat_map chain_text chains)
 
 -- AlgorithmIdentifier (RFC 5280, 4.1.1.2)
 abbrev pub identifier_text : Name → List ℕ
-identifier_text name = value 48 (name_text name)
+identifier_text name = value 48 (name_contents name)
 
 -- SEQUENCE OF AlgorithmIdentifier
 abbrev pub names_text : List Name → List ℕ
 names_text names = value 48 (flat_map identifier_text names)
 
+-- the contents of an EvidenceRecord
 abbrev pub record_contents : EvidenceRecord → List ℕ
 record_contents r =
     value 2 (1 ∷ [])

@@ -1,35 +1,12 @@
 -- Which parts a record of evidence may have (RFC 4998, 3.1, 4.1 and 5.1), apart from any bytes.
-use Rattle.std.specs.Prelude.{◌≡◌, ◌≢◌, ℕ, ◌<◌, ◌≤◌, true, List, [], length, sum_by, IfSome}
+use Rattle.std.specs.Prelude.{◌≢◌, ℕ, ◌<◌, ◌≤◌, List, [], length, sum_by, IfSome}
 use Rattle.std.specs.List.{AllByRecursion}
-use Rattle.der_values.specs.Value.{Spells}
-use Rattle.der_values.specs.Typed.{are_subidentifiers}
-use Rattle.der_values.specs.Algorithm.{Name}
+use Rattle.der_values.specs.Typed.{IsTagged}
+use Rattle.der_values.specs.Algorithm.{IsName}
+use Rattle.evidence_syntax.specs.Checks.{most_stamps}
 use Rattle.evidence_syntax.specs.Stamps.{Stamp}
-use Rattle.evidence_syntax.specs.Record.{EvidenceRecord, longest}
+use Rattle.evidence_syntax.specs.Record.{EvidenceRecord, longest_record}
 use Rattle.evidence_syntax.specs.Text.{record_spelling}
-
--- ---- single values
-
--- the contents of an OBJECT IDENTIFIER (X.690, 8.19)
-pub record IsOid (content : List ℕ) : Type 0 where
-  pub some : content ≢ []
-  pub whole : are_subidentifiers true content ≡ true
-
--- the bytes of one value, of whatever tag (X.690, 8.1)
-pub record IsOneValue (bytes : List ℕ) : Type 0 where
-  pub tag : ℕ
-  pub content : List ℕ
-  pub spells : Spells bytes tag content
-
--- the bytes of one value of this tag
-pub record IsTagged (tag : ℕ) (bytes : List ℕ) : Type 0 where
-  pub content : List ℕ
-  pub spells : Spells bytes tag content
-
--- the name of an algorithm, whose parameters are one value (RFC 5280, 4.1.1.2)
-pub record IsName (name : Name) : Type 0 where
-  pub oid : IsOid name.oid
-  pub params : IfSome name.params IsOneValue
 
 -- ---- archive time-stamps
 
@@ -67,7 +44,7 @@ stamps_in chains = sum_by length chains
 pub record IsSequence (chains : List (List Stamp)) : Type 0 where
   pub some : chains ≢ []
   pub each : AllByRecursion IsChain chains
-  pub few : stamps_in chains ≤ 200
+  pub few : stamps_in chains ≤ most_stamps
 
 -- EvidenceRecord: its cryptoInfos has the tag [0], and its encryptionInfo [1], whatever stands in them
 pub record IsRecord (r : EvidenceRecord) : Type 0 where
@@ -75,4 +52,4 @@ pub record IsRecord (r : EvidenceRecord) : Type 0 where
   pub crypto : IfSome r.crypto (IsTagged 0xa0)
   pub encryption : IfSome r.encryption (IsTagged 0xa1)
   pub sequence : IsSequence r.chains
-  pub short : length (record_spelling r) ≤ longest
+  pub short : length (record_spelling r) ≤ longest_record

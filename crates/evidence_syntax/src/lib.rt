@@ -7,12 +7,17 @@ mod fault;
 pub mod laws;
 mod lists;
 mod record_bytes;
+mod sizes;
 mod stamps;
+mod values;
 mod writing;
 
+pub use checks::MOST_STAMPS;
 pub use fault::{SyntaxFault, SyntaxKind};
-pub use record_bytes::{EvRecord, read_record};
+pub use record_bytes::{EvRecord, LONGEST_RECORD, read_record};
+pub use sizes::{record_size, sequence_size};
 pub use stamps::{Ats, Chain};
+pub use values::{OlderChains, document_values};
 pub use writing::{write_record, write_sequence};
 
 #[cfg(test)]

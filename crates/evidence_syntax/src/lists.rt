@@ -1,5 +1,6 @@
 ghost use Rattle.der_values.specs.Next.{contents, seen, IsValue};
-ghost use Rattle.evidence_syntax.specs.Lists.{lists_of, each_value, list_at, each_list, lists_at};
+ghost use Rattle.evidence_syntax.specs.Lists.{lists_of};
+ghost use Rattle.evidence_syntax.specs.Inside.{each_value, list_at, each_list, lists_at};
 ghost use Rattle.evidence_syntax.specs.Inside.{Counts};
 
 use crate::checks::{SoFar, check_filled, hash_value};
@@ -42,7 +43,7 @@ fn all_lists(so_far: SoFar, mut reader: Reader<'_>) -> Result<Vec<Items<HashValu
 
 /// The lists of a reduced hash tree.
 #[tactic(auto, unfolding(der_values::specs::Reading::read, der_values::specs::Next::finish_of))]
-pub fn lists(so_far: SoFar, t: &Tlv<'_>) -> Result<Items<Items<HashValue>>, SyntaxFault>
+pub(crate) fn lists(so_far: SoFar, t: &Tlv<'_>) -> Result<Items<Items<HashValue>>, SyntaxFault>
     requires { IsValue t.now }
     ensures { Counts lists_of (λ l. l) (λ l. so_far.stamps) result (lists_at so_far.stamps (seen t.now)) }
 {

@@ -5,7 +5,7 @@ ghost use Rattle.der_values.specs.Reading.{FindsUnless, Unless, AnswersUnless};
 ghost use Rattle.der_values.specs.Grammar.{from_start};
 ghost use Rattle.der_values.specs.Algorithm.{name_of, name_seen};
 ghost use Rattle.evidence_syntax.specs.Checks.{is_memory};
-ghost use Rattle.evidence_syntax.specs.Record.{EvidenceRecord, algorithms_of, record_of, record_seen, longest, Spells, record_first_fault};
+ghost use Rattle.evidence_syntax.specs.Record.{EvidenceRecord, algorithms_of, record_of, record_seen, longest_record, Spells, record_first_fault};
 ghost use Rattle.evidence_syntax.specs.Inside.{Counts, algorithm_at, each_algorithm, algorithms_at, record_contents_at, record_at};
 
 use crate::checks::{SoFar, check_version};
@@ -15,7 +15,7 @@ use der_values::{AlgName, Items, Reader, Tlv, read_algorithm, whole_of};
 use std::alloc::Global;
 
 /// The most bytes of a record.
-const LONGEST: usize = 16_777_216;
+pub const LONGEST_RECORD: usize = 16_777_216;
 
 /// An EvidenceRecord (RFC 4998, 3.1).
 #[derive(Debug, Drop)]
@@ -103,7 +103,7 @@ pub fn read_record<'a>(alloc: Global, bytes: &'a [u8]) -> Result<EvRecord<'a>, S
     // Else the first fault is, or want of memory.
     ensures fault { IfErr result (λ e. Unless (is_memory e) (record_first_fault bytes.now ≡ Some e)) }
 {
-    if bytes.len() > LONGEST {
+    if bytes.len() > LONGEST_RECORD {
         return Err(SyntaxFault::at(0, SyntaxKind::TooLong));
     }
     whole_record(alloc, bytes)

@@ -3,7 +3,8 @@ ghost use Rattle.std.specs.Option.{option_map};
 ghost use Rattle.der_values.specs.Next.{contents, seen, IsValue};
 ghost use Rattle.der_values.specs.Algorithm.{name_of, name_seen};
 ghost use Rattle.evidence_syntax.specs.Lists.{lists_of};
-ghost use Rattle.evidence_syntax.specs.Stamps.{stamp_of, stamp_seen, chain_of, chain_seen, chains_of, chains_seen, algorithm_at, tree_at, stamp_contents_at, stamp_at, each_stamp, chain_at, each_chain, sequence_at};
+ghost use Rattle.evidence_syntax.specs.Stamps.{stamp_of, stamp_seen, chain_of, chain_seen, chains_of, chains_seen};
+ghost use Rattle.evidence_syntax.specs.Inside.{stamp_algorithm_at, tree_at, stamp_contents_at, stamp_at, each_stamp, chain_at, each_chain, sequence_at};
 ghost use Rattle.evidence_syntax.specs.Inside.{Counts};
 
 use crate::checks::{SoFar, check_filled, count};
@@ -33,7 +34,7 @@ pub struct Chain<'a> {
 
 /// What was read, and the number of archive time-stamps so far, those in it among them.
 #[derive(Debug, Drop)]
-pub struct Counted<T> {
+pub(crate) struct Counted<T> {
     pub read: T,
     pub stamps: u64,
 }
@@ -41,7 +42,7 @@ pub struct Counted<T> {
 #[tactic(auto, using(der_values::proofs::Passed::algorithm_alike))]
 fn algorithm<'a>(so_far: SoFar, t: &Option<Tlv<'a>>) -> Result<Option<AlgName<'a>>, SyntaxFault>
     requires { IfSome t.now IsValue }
-    ensures { Counts (λ p. option_map name_of p) (λ a. option_map name_seen a) (λ a. so_far.stamps) result (algorithm_at so_far.stamps (option_map seen t.now)) }
+    ensures { Counts (λ p. option_map name_of p) (λ a. option_map name_seen a) (λ a. so_far.stamps) result (stamp_algorithm_at so_far.stamps (option_map seen t.now)) }
 {
     match t {
         Some(t) => Ok(Some(read_algorithm(t)?)),
@@ -144,7 +145,10 @@ fn all_chains<'a>(
 
 /// The chains of an ArchiveTimeStampSequence (RFC 4998, 5.1).
 #[tactic(auto, unfolding(der_values::specs::Reading::read, der_values::specs::Next::finish_of))]
-pub fn sequence<'a>(so_far: SoFar, t: &Tlv<'a>) -> Result<Counted<Items<Chain<'a>>>, SyntaxFault>
+pub(crate) fn sequence<'a>(
+    so_far: SoFar,
+    t: &Tlv<'a>,
+) -> Result<Counted<Items<Chain<'a>>>, SyntaxFault>
     requires { IsValue t.now }
     ensures { Counts chains_of (λ c. chains_seen c.read) (λ c. c.stamps) result (sequence_at so_far.stamps (seen t.now)) }
 {

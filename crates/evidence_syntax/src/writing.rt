@@ -1,4 +1,4 @@
-ghost use Rattle.std.specs.Prelude.{◌≡◌, ◌<◌, ◌^◌, ◌++◌, ℕ, List, length, map, IfOk, OnOk};
+ghost use Rattle.std.specs.Prelude.{◌≡◌, ◌<◌, ◌^◌, ◌++◌, ℕ, List, length, map, IfOk, OnOk, OnErr};
 ghost use Rattle.std.specs.Option.{option_map};
 ghost use Rattle.std.specs.List.{flat_map};
 ghost use Rattle.der_values.specs.Value.{value};
@@ -6,34 +6,13 @@ ghost use Rattle.der_values.specs.Algorithm.{name_seen};
 ghost use Rattle.evidence_syntax.specs.Stamps.{stamp_seen, chain_seen, chains_seen, SpellsSequence};
 ghost use Rattle.evidence_syntax.specs.Record.{record_seen, Spells};
 ghost use Rattle.evidence_syntax.specs.Valid.{IsSequence, IsRecord};
-ghost use Rattle.evidence_syntax.specs.Text.{bytes_or_none, name_text, identifier_text, algorithm_text, list_text, tree_text, stamp_contents, stamp_text, chain_text, sequence_spelling, record_contents, record_spelling};
+ghost use Rattle.evidence_syntax.specs.Text.{identifier_text, algorithm_text, list_text, tree_text, stamp_contents, stamp_text, chain_text, sequence_spelling, record_contents, record_spelling};
 
 use crate::record_bytes::EvRecord;
 use crate::stamps::{Ats, Chain};
-use der_values::{AlgName, Items, write_tlv};
+use der_values::{AlgName, Items, tlv_bytes, write_algorithm, write_if_there, write_tlv};
 use hash_kit::HashValue;
 use std::alloc::{AllocError, Global};
-
-// Adds bytes where there are some.
-fn write_bytes(out: &mut Vec<u8>, bytes: Option<&[u8]>) -> Result<(), AllocError>
-    ensures { OnOk result (out.new.items ≡ out.old.items ++ bytes_or_none (option_map (λ b. b.now) bytes.entry)) }
-{
-    match bytes {
-        Some(bytes) => out.extend_from_slice(bytes),
-        None => Ok(()),
-    }
-}
-
-// The contents of an AlgorithmIdentifier.
-fn name_bytes(alloc: Global, name: &AlgName<'_>) -> Result<Vec<u8>, AllocError>
-    requires { length (name_text (name_seen name.now)) < 2 ^ 32 }
-    ensures { IfOk result (λ contents. contents.items ≡ name_text (name_seen name.now)) }
-{
-    let mut contents = Vec::new(alloc);
-    write_tlv(&mut contents, 0x06, name.oid)?;
-    write_bytes(&mut contents, name.params)?;
-    Ok(contents)
-}
 
 fn names_bytes(alloc: Global, names: &[AlgName<'_>]) -> Result<Vec<u8>, AllocError>
     requires { length (flat_map identifier_text (map name_seen names.now)) < 2 ^ 32 }
@@ -41,8 +20,7 @@ fn names_bytes(alloc: Global, names: &[AlgName<'_>]) -> Result<Vec<u8>, AllocErr
 {
     let mut contents = Vec::new(alloc);
     for name in names {
-        let inner = name_bytes(alloc, name)?;
-        write_tlv(&mut contents, 0x30, inner.as_slice())?;
+        write_algorithm(&mut contents, 0x30, name)?;
     }
     Ok(contents)
 }
@@ -70,15 +48,12 @@ fn lists_bytes(alloc: Global, lists: &[Items<HashValue>]) -> Result<Vec<u8>, All
 }
 
 // Adds the name of the hash of an archive time-stamp, where it is named.
-fn write_algorithm(out: &mut Vec<u8>, name: &Option<AlgName<'_>>) -> Result<(), AllocError>
+fn write_hash_name(out: &mut Vec<u8>, name: &Option<AlgName<'_>>) -> Result<(), AllocError>
     requires { length (algorithm_text (option_map name_seen name.now)) < 2 ^ 32 }
     ensures { OnOk result (out.new.items ≡ out.old.items ++ algorithm_text (option_map name_seen name.now)) }
 {
     match name {
-        Some(name) => {
-            let contents = name_bytes(*out.allocator(), name)?;
-            write_tlv(out, 0xa0, contents.as_slice())
-        }
+        Some(name) => write_algorithm(out, 0xa0, name),
         None => Ok(()),
     }
 }
@@ -104,8 +79,8 @@ fn stamp_bytes(alloc: Global, stamp: &Ats<'_>) -> Result<Vec<u8>, AllocError>
     ensures { IfOk result (λ contents. contents.items ≡ stamp_contents (stamp_seen stamp.now)) }
 {
     let mut contents = Vec::new(alloc);
-    write_algorithm(&mut contents, &stamp.algorithm)?;
-    write_bytes(&mut contents, stamp.attributes)?;
+    write_hash_name(&mut contents, &stamp.algorithm)?;
+    write_if_there(&mut contents, stamp.attributes)?;
     write_tree(&mut contents, &stamp.lists)?;
     contents.extend_from_slice(stamp.token)?;
     Ok(contents)
@@ -123,14 +98,23 @@ fn stamps_bytes(alloc: Global, stamps: &[Ats<'_>]) -> Result<Vec<u8>, AllocError
     Ok(contents)
 }
 
+/// Writes a chain at the end of `out`. Where there is no memory, `out` is as it was.
+pub(crate) fn write_chain(out: &mut Vec<u8>, chain: &Chain<'_>) -> Result<(), AllocError>
+    requires { length (chain_text (chain_seen chain.now)) < 2 ^ 32 }
+    ensures ok { OnOk result (out.new.items ≡ out.old.items ++ chain_text (chain_seen chain.now)) }
+    ensures err { OnErr result (out.new.items ≡ out.old.items) }
+{
+    let stamps = stamps_bytes(*out.allocator(), chain.stamps.as_slice())?;
+    write_tlv(out, 0x30, stamps.as_slice())
+}
+
 fn chains_bytes(alloc: Global, chains: &[Chain<'_>]) -> Result<Vec<u8>, AllocError>
     requires { length (flat_map chain_text (chains_seen chains.now)) < 2 ^ 32 }
     ensures { IfOk result (λ contents. contents.items ≡ flat_map chain_text (chains_seen chains.now)) }
 {
     let mut contents = Vec::new(alloc);
     for chain in chains {
-        let stamps = stamps_bytes(alloc, chain.stamps.as_slice())?;
-        write_tlv(&mut contents, 0x30, stamps.as_slice())?;
+        write_chain(&mut contents, chain)?;
     }
     Ok(contents)
 }
@@ -146,20 +130,10 @@ fn contents_bytes(alloc: Global, parts: &EvRecord<'_>) -> Result<Vec<u8>, AllocE
     let mut contents = Vec::new(alloc);
     write_tlv(&mut contents, 0x02, &[1])?;
     write_tlv(&mut contents, 0x30, names.as_slice())?;
-    write_bytes(&mut contents, parts.crypto)?;
-    write_bytes(&mut contents, parts.encryption)?;
+    write_if_there(&mut contents, parts.crypto)?;
+    write_if_there(&mut contents, parts.encryption)?;
     write_tlv(&mut contents, 0x30, chains.as_slice())?;
     Ok(contents)
-}
-
-// The SEQUENCE of these contents.
-fn sequence_of(alloc: Global, contents: &[u8]) -> Result<Vec<u8>, AllocError>
-    requires { length contents.now < 2 ^ 32 }
-    ensures { IfOk result (λ bytes. bytes.items ≡ value 48 contents.now) }
-{
-    let mut bytes = Vec::new(alloc);
-    write_tlv(&mut bytes, 0x30, contents)?;
-    Ok(bytes)
 }
 
 /// The one spelling of an ArchiveTimeStampSequence of these chains (RFC 4998, 5.1).
@@ -171,8 +145,8 @@ pub fn write_sequence(alloc: Global, chains: &[Chain<'_>]) -> Result<Vec<u8>, Al
     ensures read { IfOk result (λ bytes. IsSequence (chains_seen chains.now)
         → SpellsSequence bytes.items (chains_seen chains.now)) }
 {
-    let contents = chains_bytes(alloc, chains)?;
-    sequence_of(alloc, contents.as_slice())
+    let chains = chains_bytes(alloc, chains)?;
+    tlv_bytes(alloc, 0x30, chains.as_slice())
 }
 
 /// The one spelling of an evidence record of these parts.
@@ -185,5 +159,5 @@ pub fn write_record(alloc: Global, parts: &EvRecord<'_>) -> Result<Vec<u8>, Allo
         → Spells bytes.items (record_seen parts.now)) }
 {
     let contents = contents_bytes(alloc, parts)?;
-    sequence_of(alloc, contents.as_slice())
+    tlv_bytes(alloc, 0x30, contents.as_slice())
 }

@@ -3,7 +3,8 @@ use Rattle.der_values.specs.Next.{seen}
 use Rattle.der_values.specs.Shape.{tagged}
 use Rattle.der_values.proofs.Loop.{one_more, all_read}
 use Rattle.evidence_syntax.specs.Checks.{der}
-use Rattle.evidence_syntax.specs.Lists.{ListParts, list_at, each_list}
+use Rattle.evidence_syntax.specs.Lists.{ListParts}
+use Rattle.evidence_syntax.specs.Inside.{list_at, each_list}
 use Rattle.evidence_syntax.proofs.lists.all_lists.Goals as goal
 
 pub loop-reader-preserved : goal.loop-reader-preserved

@@ -2,7 +2,8 @@ use Rattle.std.proofs.Common.{length}
 use Rattle.der_values.specs.Shape.{tagged}
 use Rattle.der_values.proofs.Loop.{ReadSoFar}
 use Rattle.evidence_syntax.specs.Checks.{der}
-use Rattle.evidence_syntax.specs.Lists.{ListParts, list_at, each_list}
+use Rattle.evidence_syntax.specs.Lists.{ListParts}
+use Rattle.evidence_syntax.specs.Inside.{list_at, each_list}
 use Rattle.evidence_syntax.proofs.lists.all_lists.Given as goal
 
 abbrev pub invariant-loop-reader : goal.invariant-loop-reader

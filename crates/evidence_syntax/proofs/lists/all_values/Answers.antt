@@ -5,7 +5,7 @@ use Rattle.der_values.specs.Shape.{tagged}
 use Rattle.der_values.specs.Reading.{read}
 use Rattle.der_values.proofs.Loop.{one_more, all_read}
 use Rattle.evidence_syntax.specs.Checks.{der}
-use Rattle.evidence_syntax.specs.Lists.{value_at, each_value}
+use Rattle.evidence_syntax.specs.Inside.{value_at, each_value}
 use Rattle.evidence_syntax.proofs.lists.all_values.Goals as goal
 
 pub loop-reader-preserved : goal.loop-reader-preserved

@@ -2,7 +2,7 @@ use Rattle.std.proofs.Common.{length, ℕ, List}
 use Rattle.der_values.specs.Shape.{tagged}
 use Rattle.der_values.proofs.Loop.{ReadSoFar}
 use Rattle.evidence_syntax.specs.Checks.{der}
-use Rattle.evidence_syntax.specs.Lists.{value_at, each_value}
+use Rattle.evidence_syntax.specs.Inside.{value_at, each_value}
 use Rattle.evidence_syntax.proofs.lists.all_values.Given as goal
 
 abbrev pub invariant-loop-reader : goal.invariant-loop-reader

@@ -4,7 +4,8 @@ use Rattle.der_values.specs.Next.{seen}
 use Rattle.der_values.specs.Shape.{tagged}
 use Rattle.der_values.proofs.Loop.{one_more, all_read}
 use Rattle.evidence_syntax.specs.Checks.{der}
-use Rattle.evidence_syntax.specs.Stamps.{Stamp, chain_at, each_chain, chain_of, chain_seen, chains_seen}
+use Rattle.evidence_syntax.specs.Stamps.{Stamp, chain_of, chain_seen, chains_seen}
+use Rattle.evidence_syntax.specs.Inside.{chain_at, each_chain}
 use Rattle.evidence_syntax.proofs.stamps.all_chains.Goals as goal
 
 pub loop-reader-preserved : goal.loop-reader-preserved

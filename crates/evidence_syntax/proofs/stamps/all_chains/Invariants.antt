@@ -2,7 +2,8 @@ use Rattle.std.proofs.Common.{length}
 use Rattle.der_values.specs.Shape.{tagged}
 use Rattle.der_values.proofs.Loop.{ReadSoFar}
 use Rattle.evidence_syntax.specs.Checks.{der}
-use Rattle.evidence_syntax.specs.Stamps.{chain_at, each_chain, chain_of, chains_seen}
+use Rattle.evidence_syntax.specs.Stamps.{chain_of, chains_seen}
+use Rattle.evidence_syntax.specs.Inside.{chain_at, each_chain}
 use Rattle.evidence_syntax.proofs.stamps.all_chains.Given as goal
 
 abbrev pub invariant-loop-reader : goal.invariant-loop-reader

@@ -5,7 +5,8 @@ use Rattle.der_values.specs.Next.{seen}
 use Rattle.der_values.specs.Shape.{tagged}
 use Rattle.der_values.proofs.Loop.{one_more, all_read}
 use Rattle.evidence_syntax.specs.Checks.{der}
-use Rattle.evidence_syntax.specs.Stamps.{Stamp, stamp_at, each_stamp, stamp_of, stamp_seen}
+use Rattle.evidence_syntax.specs.Stamps.{Stamp, stamp_of, stamp_seen}
+use Rattle.evidence_syntax.specs.Inside.{stamp_at, each_stamp}
 use Rattle.evidence_syntax.proofs.stamps.all_stamps.Goals as goal
 
 pub loop-reader-preserved : goal.loop-reader-preserved

@@ -3,7 +3,8 @@ use Rattle.std.specs.Prelude.{map}
 use Rattle.der_values.specs.Shape.{tagged}
 use Rattle.der_values.proofs.Loop.{ReadSoFar}
 use Rattle.evidence_syntax.specs.Checks.{der}
-use Rattle.evidence_syntax.specs.Stamps.{stamp_at, each_stamp, stamp_of, stamp_seen}
+use Rattle.evidence_syntax.specs.Stamps.{stamp_of, stamp_seen}
+use Rattle.evidence_syntax.specs.Inside.{stamp_at, each_stamp}
 use Rattle.evidence_syntax.proofs.stamps.all_stamps.Given as goal
 
 abbrev pub invariant-loop-reader : goal.invariant-loop-reader

@@ -1,9 +1,10 @@
 use Rattle.std.proofs.Common.{◌<◌, ◌^◌, [], ◌∷◌, length}
 use Rattle.std.specs.List.{flat_map}
-use Rattle.der_values.specs.Value.{value}
+use Rattle.der_values.specs.Value.{value, bytes_or_none}
+use Rattle.der_values.proofs.Lengths.{inner_shorter}
 use Rattle.evidence_syntax.specs.Record.{EvidenceRecord, record_seen}
-use Rattle.evidence_syntax.specs.Text.{bytes_or_none, identifier_text, chain_text, names_text, sequence_spelling, record_contents}
-use Rattle.evidence_syntax.proofs.Parts.{inner_shorter, five_shorter}
+use Rattle.evidence_syntax.specs.Text.{identifier_text, chain_text, names_text, sequence_spelling, record_contents}
+use Rattle.evidence_syntax.proofs.Parts.{five_shorter}
 use Rattle.evidence_syntax.proofs.writing.contents_bytes.Goals as goal
 
 names_short : (r : EvidenceRecord) → length (record_contents r) < 2 ^ 32 → length (flat_map identifier_text r.algorithms) < 2 ^ 32

@@ -1,8 +1,9 @@
 use Rattle.std.proofs.Common.{ℕ, List, ◌<◌, ◌^◌, length}
 use Rattle.std.specs.List.{flat_map}
 use Rattle.der_values.specs.Value.{value}
+use Rattle.der_values.proofs.Lengths.{inner_shorter}
 use Rattle.evidence_syntax.specs.Text.{list_text}
-use Rattle.evidence_syntax.proofs.Parts.{inner_shorter, one_shorter}
+use Rattle.evidence_syntax.proofs.Parts.{one_shorter}
 use Rattle.evidence_syntax.proofs.writing.lists_bytes.Goals as goal
 
 pub write_tlv-requires-clause-short : goal.write_tlv-requires-clause-short

@@ -1,7 +1,8 @@
 use Rattle.std.proofs.Common.{◌<◌, ◌^◌, length}
+use Rattle.der_values.proofs.Lengths.{inner_shorter}
 use Rattle.evidence_syntax.specs.Stamps.{stamp_seen}
 use Rattle.evidence_syntax.specs.Text.{stamp_contents, stamp_text}
-use Rattle.evidence_syntax.proofs.Parts.{inner_shorter, one_seen_shorter}
+use Rattle.evidence_syntax.proofs.Parts.{one_seen_shorter}
 use Rattle.evidence_syntax.proofs.writing.stamps_bytes.Goals as goal
 
 pub stamp_bytes-requires : goal.stamp_bytes-requires

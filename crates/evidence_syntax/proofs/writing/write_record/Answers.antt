@@ -9,4 +9,4 @@ pub returns-clause-read : goal.returns-clause-read
 returns-clause-read c =
     let parts = record_seen c.args.parts.now in
     let contents = c.as_slice.ensures.value ∙ c.in_ok-contents.ensures in
-    if_ok c.sequence_of.result (λ written is valid. subst (λ b. Spells b parts) (sym (is ∙ ap (λ t. value 48 t) contents)) (record_readable parts valid)) c.sequence_of.ensures
+    if_ok c.tlv_bytes.result (λ written is valid. subst (λ b. Spells b parts) (sym (is ∙ ap (λ t. value 48 t) contents)) (record_readable parts valid)) c.tlv_bytes.ensures.ok

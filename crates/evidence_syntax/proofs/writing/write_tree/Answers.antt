@@ -1,7 +1,7 @@
 use Rattle.std.proofs.Common.{◌<◌, ◌^◌, length}
 use Rattle.std.specs.List.{flat_map}
+use Rattle.der_values.proofs.Lengths.{inner_shorter}
 use Rattle.evidence_syntax.specs.Text.{list_text}
-use Rattle.evidence_syntax.proofs.Parts.{inner_shorter}
 use Rattle.evidence_syntax.proofs.writing.write_tree.Goals as goal
 
 pub lists_bytes-requires : goal.lists_bytes-requires
