@@ -9,7 +9,7 @@ use Rattle.evidence_syntax.specs.Record.{EvidenceRecord, Spells}
 use Rattle.evidence_syntax.specs.Valid as valid
 use Rattle.evidence_syntax.proofs.ValidParts.{record_is}
 use Rattle.evidence_syntax.proofs.Written.{chains_fit}
-use Rattle.evidence_verify.specs.Readable.{IsTree, HasTree, IsReadable, WereRead}
+use Rattle.evidence_verify.specs.InsideChains.{IsTree, HasTree, IsReadable, WereRead}
 
 some_items : {A : Type 0} (xs : List A) → xs ≢ [] → 0 < length xs
 some_items [] ne = absurd (ne refl)

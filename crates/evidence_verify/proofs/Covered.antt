@@ -8,7 +8,7 @@ use Rattle.std.proofs.lemmas.Slice.Eq.{bytes_eq-Decides}
 use Rattle.hash_kit.specs.declared.algorithm.HashAlg.{HashAlg}
 use Rattle.reduced_tree.specs.Reduced.{first_of, plain_root, other_root}
 use Rattle.evidence_verify.specs.Stamps.{Checked}
-use Rattle.evidence_verify.specs.Values.{Due}
+use Rattle.evidence_verify.specs.Values.{Owed}
 use Rattle.evidence_verify.specs.Covers.{IsRoot, CoversBy, Covers, has, is_other, is_root, covers_by, covers, not_covered, uncovered, cover_fault}
 use Rattle.evidence_verify.specs.Holds.{IsCovered}
 use Rattle.evidence_verify.proofs.Members.{has_from, from_has}
@@ -76,15 +76,15 @@ none_mapped : {A B : Type 0} (f : A → B) (o : Option A) → option_map f o ≡
 none_mapped f None e = refl
 none_mapped f (Some x) e = absurd (some_none e)
 
-pub covered_all : (dues : List Due) → cover_fault dues ≡ None → AllByRecursion IsCovered dues
+pub covered_all : (all_owed : List Owed) → cover_fault all_owed ≡ None → AllByRecursion IsCovered all_owed
 unfolding uncovered
 covered_all [] e = tt
-covered_all (d ∷ dues) e =
-    let parts = both_none (uncovered d) (cover_fault dues) e in
-    (none_found d.stamp 0 d.values (none_mapped (not_covered d.stamp) _ parts.0), covered_all dues parts.1)
+covered_all (d ∷ all_owed) e =
+    let parts = both_none (uncovered d) (cover_fault all_owed) e in
+    (none_found d.stamp 0 d.values (none_mapped (not_covered d.stamp) _ parts.0), covered_all all_owed parts.1)
 
-pub all_covered : (dues : List Due) → AllByRecursion IsCovered dues → cover_fault dues ≡ None
+pub all_covered : (all_owed : List Owed) → AllByRecursion IsCovered all_owed → cover_fault all_owed ≡ None
 unfolding uncovered
 all_covered [] h = refl
-all_covered (d ∷ dues) h =
-    ap (λ (o : Option ℕ). option_or (option_map (not_covered d.stamp) o) (cover_fault dues)) (found_none d.stamp 0 d.values h.0) ∙ all_covered dues h.1
+all_covered (d ∷ all_owed) h =
+    ap (λ (o : Option ℕ). option_or (option_map (not_covered d.stamp) o) (cover_fault all_owed)) (found_none d.stamp 0 d.values h.0) ∙ all_covered all_owed h.1

@@ -1,9 +1,9 @@
 -- A record is valid exactly where it holds.
-use Rattle.std.proofs.Common.{◌≡◌, inl, inr, ℕ, Bool, true, false, List, [], ◌∷◌, ◌↔◌, Option, Some, None, unwrap_or, refl, sym, ap, subst, ◌∙◌, if◌then◌else◌}
-use Rattle.std.specs.Prelude.{◌==◌, IfSome}
+use Rattle.std.proofs.Common.{◌≡◌, inl, inr, ℕ, Bool, true, false, not, ◌&&◌, List, [], ◌∷◌, ◌↔◌, Option, Some, None, unwrap_or, refl, sym, ap, subst, ◌∙◌, if◌then◌else◌}
+use Rattle.std.specs.Prelude.{◌==◌, ⊤, IfSome}
 use Rattle.std.specs.Option.{option_map, option_or}
 use Rattle.std.specs.List.{AllByRecursion}
-use Rattle.std.proofs.lemmas.Bool.{and_parts, and_from, ne_eqb}
+use Rattle.std.proofs.lemmas.Bool.{and_parts, and_from, ne_eqb, eqb-true}
 use Rattle.civil_moment.specs.declared.moment.Moment.{Moment}
 use Rattle.algorithm_policy.specs.Content.{Content}
 use Rattle.der_values.specs.Algorithm.{Name}
@@ -11,22 +11,28 @@ use Rattle.der_values.specs.Grammar.{from_start}
 use Rattle.der_values.proofs.Meaning.{one_meaning}
 use Rattle.hash_kit.specs.declared.algorithm.HashAlg.{HashAlg}
 use Rattle.hash_kit.specs.declared.algorithm.HashAlg.TheVariants.{Sha256, Sha384, Sha512}
-use Rattle.token_check.specs.Sound.{known_hash}
+use Rattle.cms_signed.specs.Names.{known_hash}
 use Rattle.evidence_syntax.specs.Checks.{record_checks}
+use Rattle.evidence_syntax.specs.Stamps.{Stamp}
 use Rattle.evidence_syntax.specs.Record.{EvidenceRecord, record_of, record_shape, Spells}
-use Rattle.evidence_verify.specs.declared.verdict.Mode.TheVariants.{Member}
+use Rattle.evidence_verify.specs.declared.verdict.Mode.{Mode}
+use Rattle.evidence_verify.specs.declared.verdict.Mode.TheVariants.{Member, Whole}
 use Rattle.evidence_verify.specs.declared.verdict.Lapse.{Lapse}
 use Rattle.evidence_verify.specs.declared.verdict.Verdict.{Verdict}
-use Rattle.evidence_verify.specs.declared.verdict.Verdict.TheVariants.{Valid, MixedHash, OutOfOrder, Early, Lapsed}
+use Rattle.evidence_verify.specs.declared.verdict.Verdict.TheVariants.{Valid, NotWhole, MixedHash, OutOfOrder, Early, Lapsed}
 use Rattle.evidence_verify.specs.Stamps.{places_of, Checked}
 use Rattle.evidence_verify.specs.Hashes.{is_same, is_hash, is_named, chain_hash, has_one_hash, mixed_after, mixed_fault}
-use Rattle.evidence_verify.specs.Order.{is_before, order_after, order_fault, early_fault}
-use Rattle.evidence_verify.specs.Values.{Due, dues_of}
-use Rattle.evidence_verify.specs.Covers.{not_covered, uncovered, cover_fault}
-use Rattle.evidence_verify.specs.Lapse.{lapse_of}
+use Rattle.civil_moment.specs.Moment.{is_before}
+use Rattle.evidence_verify.specs.Order.{order_after, order_fault, early_fault}
+use Rattle.evidence_verify.specs.Values.{Owed, owed_by}
+use Rattle.evidence_verify.specs.Covers.{not_covered, uncovered, cover_fault, is_whole, not_whole, first_not_whole, whole_fault}
+use Rattle.evidence_verify.specs.Lapse.{marks_of, lapse_of}
 use Rattle.evidence_verify.specs.Verdict.{Judges, Verdicts}
-use Rattle.evidence_verify.specs.Holds.{EachNext, NamesHash, KeepsHash, KeepsOrder, IsLateEnough, Holds}
-use Rattle.evidence_verify.proofs.Covered.{covered_all, all_covered}
+use Rattle.evidence_verify.specs.Holds.{EachNext, NamesHash, KeepsHash, KeepsOrder, IsLateEnough, Holds, HasOnly, IsWhole, HoldsWhole}
+use Rattle.evidence_verify.proofs.Covered.{both_none, covered_all, all_covered}
+use Rattle.evidence_verify.proofs.Lapsing.{all_in_time, none_lapses}
+use Rattle.evidence_verify.proofs.Members.{all_from, from_all}
+use Rattle.reduced_tree.specs.Reduced.{first_of}
 
 some_none : {A : Type 0} {x : A} → Some x ≡ None → ⊥
 some_none e = cc
@@ -145,6 +151,54 @@ not_early moment [] h = refl
 not_early moment (c ∷ []) h = ap (λ (t : Bool). if t then Some (Early moment c.says.time) else None) h
 not_early moment (c ∷ d ∷ rest) h = not_early moment (d ∷ rest) h
 
+-- ---- the whole
+
+only_from : (values : List (List ℕ)) (lists : Option (List (List (List ℕ)))) → is_whole lists values ≡ true → HasOnly values lists
+only_from values None h = tt
+only_from values (Some lists) h = from_all values (first_of lists) h
+
+from_only : (values : List (List ℕ)) (lists : Option (List (List (List ℕ)))) → HasOnly values lists → is_whole lists values ≡ true
+from_only values None h = refl
+from_only values (Some lists) h = all_from values (first_of lists) h
+
+asked : {A : Type 0} (first whole : Bool) (x : A) → (if first && not whole then Some x else None) ≡ None → first ≡ true → whole ≡ true
+asked true true x e h = refl
+asked true false x e h = absurd (some_none e)
+asked false whole x e h = cc
+
+answered : {A : Type 0} (first whole : Bool) (x : A) → (first ≡ true → whole ≡ true) → (if first && not whole then Some x else None) ≡ None
+answered true true x h = refl
+answered true false x h = let e = h refl in cc
+answered false whole x h = refl
+
+is_first : (n : ℕ) → (n == 0) ≡ true → n ≡ 0
+is_first n e = eqb-true n 0 e
+
+whole_from : (all_owed : List Owed) → first_not_whole all_owed ≡ None → AllByRecursion IsWhole all_owed
+whole_from [] e = tt
+whole_from (o ∷ all_owed) e =
+    let parts = both_none (not_whole o) (first_not_whole all_owed) e in
+    ((λ first. only_from o.values o.stamp.place.ats.lists (asked (o.stamp.place.stamp == 0) (is_whole o.stamp.place.ats.lists o.values) (NotWhole o.stamp.place.chain) parts.0 (ap (λ n. n == 0) first))), whole_from all_owed parts.1)
+
+from_whole : (all_owed : List Owed) → AllByRecursion IsWhole all_owed → first_not_whole all_owed ≡ None
+from_whole [] h = refl
+from_whole (o ∷ all_owed) h =
+    let here : not_whole o ≡ None = answered (o.stamp.place.stamp == 0) (is_whole o.stamp.place.ats.lists o.values) (NotWhole o.stamp.place.chain) (λ first. from_only o.values o.stamp.place.ats.lists (h.0 (is_first o.stamp.place.stamp first))) in
+    ap (λ (o : Option Verdict). option_or o (first_not_whole all_owed)) here ∙ from_whole all_owed h.1
+
+-- what is asked in this mode
+abbrev IsWholeIn : Mode → List Owed → Type 0
+IsWholeIn Member all_owed = ⊤
+IsWholeIn Whole all_owed = AllByRecursion IsWhole all_owed
+
+no_whole_fault : (mode : Mode) (all_owed : List Owed) → whole_fault mode all_owed ≡ None → IsWholeIn mode all_owed
+no_whole_fault Member all_owed e = tt
+no_whole_fault Whole all_owed e = whole_from all_owed e
+
+none_by_whole : (mode : Mode) (all_owed : List Owed) → IsWholeIn mode all_owed → whole_fault mode all_owed ≡ None
+none_by_whole Member all_owed h = refl
+none_by_whole Whole all_owed h = from_whole all_owed h
+
 -- ---- no clause says that a record is valid
 
 abbrev Faults : Option Verdict → Type 0
@@ -169,21 +223,29 @@ order_faults : (before : Moment) (stamps : List Checked) → Faults (order_after
 order_faults before [] = no_fault
 order_faults before (c ∷ rest) = faults_if (is_before c.says.time before) _ _ (λ e. cc) (order_faults c.says.time rest)
 
-uncovered_faults : (due : Due) → Faults (uncovered due)
+uncovered_faults : (owed : Owed) → Faults (uncovered owed)
 unfolding uncovered
-uncovered_faults due = mapped _ where
-  mapped : (o : Option ℕ) → Faults (option_map (not_covered due.stamp) o)
+uncovered_faults owed = mapped _ where
+  mapped : (o : Option ℕ) → Faults (option_map (not_covered owed.stamp) o)
   mapped None = no_fault
   mapped (Some n) = λ e. cc
 
-cover_faults : (dues : List Due) → Faults (cover_fault dues)
+cover_faults : (all_owed : List Owed) → Faults (cover_fault all_owed)
 cover_faults [] = no_fault
-cover_faults (d ∷ dues) = faults_or (uncovered d) (cover_fault dues) (uncovered_faults d) (cover_faults dues)
+cover_faults (d ∷ all_owed) = faults_or (uncovered d) (cover_fault all_owed) (uncovered_faults d) (cover_faults all_owed)
 
 early_faults : (moment : Moment) (stamps : List Checked) → Faults (early_fault moment stamps)
 early_faults moment [] = no_fault
 early_faults moment (c ∷ []) = faults_if (is_before moment c.says.time) _ _ (λ e. cc) no_fault
 early_faults moment (c ∷ d ∷ rest) = early_faults moment (d ∷ rest)
+
+not_whole_faults : (all_owed : List Owed) → Faults (first_not_whole all_owed)
+not_whole_faults [] = no_fault
+not_whole_faults (o ∷ all_owed) = faults_or (not_whole o) (first_not_whole all_owed) (faults_if (o.stamp.place.stamp == 0 && not (is_whole o.stamp.place.ats.lists o.values)) _ _ (λ e. cc) no_fault) (not_whole_faults all_owed)
+
+whole_faults : (mode : Mode) (all_owed : List Owed) → Faults (whole_fault mode all_owed)
+whole_faults Member all_owed = no_fault
+whole_faults Whole all_owed = not_whole_faults all_owed
 
 mixed_all_faults : (stamps : List Checked) → Faults (mixed_fault stamps)
 mixed_all_faults [] = no_fault
@@ -207,38 +269,49 @@ taken (Some v) rest e = cc
 
 -- ---- a valid record holds, and one that holds is valid
 
-module _ (policy : Content) (documents : List (List ℕ)) (moment : Moment) (bytes : List ℕ) (r : EvidenceRecord) (spells : Spells bytes r) where
-  from_judged : Judges policy documents Member moment (places_of r.chains) Valid → Holds policy documents moment r.chains
+-- The record holds, as this mode asks.
+record HoldsIn (mode : Mode) (policy : Content) (documents : List (List ℕ)) (moment : Moment) (chains : List (List Stamp)) : Type 0 where
+  pub holds : Holds policy documents moment chains
+  pub whole : IsWholeIn mode (owed_by documents holds.stamps)
+
+module _ (mode : Mode) (policy : Content) (documents : List (List ℕ)) (moment : Moment) (bytes : List ℕ) (r : EvidenceRecord) (spells : Spells bytes r) where
+  from_judged : Judges policy documents mode moment (places_of r.chains) Valid → HoldsIn mode policy documents moment r.chains
   from_judged (inl bad) = let e = bad.blames in cc
   from_judged (inr judged) =
       let stamps = judged.stamps in
       let one = passed (mixed_fault stamps) _ (mixed_all_faults stamps) (sym judged.judges) in
       let two = passed (order_fault stamps) _ (order_all_faults stamps) one.1 in
-      let three = passed (cover_fault (dues_of documents stamps)) _ (cover_faults (dues_of documents stamps)) two.1 in
-      let five = passed (early_fault moment stamps) _ (early_faults moment stamps) three.1 in
+      let three = passed (cover_fault (owed_by documents stamps)) _ (cover_faults (owed_by documents stamps)) two.1 in
+      let four = passed (whole_fault mode (owed_by documents stamps)) _ (whole_faults mode (owed_by documents stamps)) three.1 in
+      let five = passed (early_fault moment stamps) _ (early_faults moment stamps) four.1 in
       let hash = all_one_hash stamps one.0 in record {
-        stamps = stamps;
-        sound = judged.sound;
-        named = hash.0;
-        one_hash = hash.1;
-        in_order = all_in_order stamps two.0;
-        covered = covered_all (dues_of documents stamps) three.0;
-        late_enough = late moment stamps five.0;
-        no_lapse = lapse_faults (lapse_of policy moment stamps) five.1;
+        holds = record {
+          stamps = stamps;
+          sound = judged.sound;
+          named = hash.0;
+          one_hash = hash.1;
+          in_order = all_in_order stamps two.0;
+          covered = covered_all (owed_by documents stamps) three.0;
+          late_enough = late moment stamps five.0;
+          in_time = all_in_time policy moment (marks_of stamps) (lapse_faults (lapse_of policy moment stamps) five.1);
+        };
+        whole = no_whole_fault mode (owed_by documents stamps) four.0;
       }
 
-  from_verdict : Verdicts policy documents Member moment bytes Valid → Holds policy documents moment r.chains
+  from_verdict : Verdicts policy documents mode moment bytes Valid → HoldsIn mode policy documents moment r.chains
   from_verdict (inl syntax) = let e = syntax.blames in cc
   from_verdict (inr judged) =
       let same = one_meaning record_checks record_shape 0 (λ p stamps. record_of p.0) (from_start bytes) judged.evidence r judged.spells.means spells.means in
-      from_judged (subst (λ (q : EvidenceRecord). Judges policy documents Member moment (places_of q.chains) Valid) same judged.judges)
+      from_judged (subst (λ (q : EvidenceRecord). Judges policy documents mode moment (places_of q.chains) Valid) same judged.judges)
 
-  to_verdict : Holds policy documents moment r.chains → Verdicts policy documents Member moment bytes Valid
-  to_verdict h =
+  to_verdict : HoldsIn mode policy documents moment r.chains → Verdicts policy documents mode moment bytes Valid
+  to_verdict i =
+      let h = i.holds in
       let stamps = h.stamps in
       let last = unwrap_or (option_map Lapsed (lapse_of policy moment stamps)) Valid in
-      let after_covering = unwrap_or (early_fault moment stamps) last in
-      let after_order = unwrap_or (cover_fault (dues_of documents stamps)) after_covering in
+      let after_whole = unwrap_or (early_fault moment stamps) last in
+      let after_covering = unwrap_or (whole_fault mode (owed_by documents stamps)) after_whole in
+      let after_order = unwrap_or (cover_fault (owed_by documents stamps)) after_covering in
       let after_hashes = unwrap_or (order_fault stamps) after_order in inr (record {
         evidence = r;
         spells = spells;
@@ -248,11 +321,21 @@ module _ (policy : Content) (documents : List (List ℕ)) (moment : Moment) (byt
           judges = sym (
               taken (mixed_fault stamps) after_hashes (none_mixed stamps h.named h.one_hash)
               ∙ taken (order_fault stamps) after_order (none_disordered stamps h.in_order)
-              ∙ taken (cover_fault (dues_of documents stamps)) after_covering (all_covered (dues_of documents stamps) h.covered)
+              ∙ taken (cover_fault (owed_by documents stamps)) after_covering (all_covered (owed_by documents stamps) h.covered)
+              ∙ taken (whole_fault mode (owed_by documents stamps)) after_whole (none_by_whole mode (owed_by documents stamps) i.whole)
               ∙ taken (early_fault moment stamps) last (not_early moment stamps h.late_enough)
-              ∙ ap (λ (o : Option Lapse). unwrap_or (option_map Lapsed o) Valid) h.no_lapse);
+              ∙ ap (λ (o : Option Lapse). unwrap_or (option_map Lapsed o) Valid) (none_lapses policy moment (marks_of stamps) h.in_time));
         });
       })
 
 pub valid_holds : (policy : Content) (documents : List (List ℕ)) (moment : Moment) (bytes : List ℕ) (r : EvidenceRecord) → Spells bytes r → Verdicts policy documents Member moment bytes Valid ↔ Holds policy documents moment r.chains
-valid_holds policy documents moment bytes r spells = (from_verdict policy documents moment bytes r spells, to_verdict policy documents moment bytes r spells)
+valid_holds policy documents moment bytes r spells = (
+  λ v. (from_verdict Member policy documents moment bytes r spells v).holds,
+  λ h. to_verdict Member policy documents moment bytes r spells (record { holds = h; whole = tt }),
+)
+
+pub valid_holds_whole : (policy : Content) (documents : List (List ℕ)) (moment : Moment) (bytes : List ℕ) (r : EvidenceRecord) → Spells bytes r → Verdicts policy documents Whole moment bytes Valid ↔ HoldsWhole policy documents moment r.chains
+valid_holds_whole policy documents moment bytes r spells = (
+  λ v. let i = from_verdict Whole policy documents moment bytes r spells v in record { holds = i.holds; whole = i.whole },
+  λ h. to_verdict Whole policy documents moment bytes r spells (record { holds = h.holds; whole = h.whole }),
+)

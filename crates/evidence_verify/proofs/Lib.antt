@@ -1,8 +1,10 @@
 pub mod Members
 pub mod Chains
 pub mod Turns
+pub mod Older
 pub mod Firsts
 pub mod Once
 pub mod Covered
 pub mod Holding
 mod StandardFacts
+pub mod Lapsing

@@ -15,11 +15,11 @@ use Rattle.evidence_syntax.specs.declared.fault.SyntaxFault.{SyntaxFault}
 use Rattle.evidence_syntax.specs.declared.fault.SyntaxFault.TheVariants.{At, Memory}
 use Rattle.evidence_syntax.specs.declared.fault.SyntaxKind.TheVariants.{TooLong}
 use Rattle.evidence_syntax.specs.Checks.{record_checks}
-use Rattle.evidence_syntax.specs.Record.{EvidenceRecord, RecordParts, record_of, record_shape, longest, Spells, record_first_fault}
+use Rattle.evidence_syntax.specs.Record.{EvidenceRecord, RecordParts, record_of, record_shape, longest_record, Spells, record_first_fault}
 use Rattle.evidence_verify.specs.declared.verdict.Mode.{Mode}
 use Rattle.evidence_verify.specs.declared.verdict.Verdict.{Verdict}
 use Rattle.evidence_verify.specs.declared.verdict.Verdict.TheVariants.{Valid, Syntax, BadStamp}
-use Rattle.evidence_verify.specs.Stamps.{Place, places_of, Checked, IsSound}
+use Rattle.evidence_verify.specs.Stamps.{Place, places_of, Checked, IsSound, AreSound}
 use Rattle.evidence_verify.specs.Verdict.{verdict_of, Judges, Verdicts}
 
 -- ---- lists with one more item in front
@@ -67,6 +67,9 @@ module _ (policy : Content) where
       let rest = one_saying cs ds (same_rest c.place d.place (places_in cs) (places_in ds) e) h.1 k.1 in
       ap (λ x. x ∷ cs) first ∙ ap (λ xs. d ∷ xs) rest
 
+  pub tokens_once : (places : List Place) (a b : List Checked) → AreSound policy places a → AreSound policy places b → a ≡ b
+  tokens_once places a b h k = one_saying a b (h.in_place ∙ sym k.in_place) h.sound k.sound
+
   -- the first that is not sound is one, and fails one check
   one_bad : (bs cs : List Checked) (p q : Place) (ps qs : List Place) (a b : Check) → places_in bs ++ p ∷ ps ≡ places_in cs ++ q ∷ qs
       → AllByRecursion (IsSound policy) bs → AllByRecursion (IsSound policy) cs → Fails policy p.ats.token a → Fails policy q.ats.token b
@@ -92,7 +95,7 @@ module _ (policy : Content) where
 no_first_fault : (bytes : List ℕ) (r : EvidenceRecord) → Spells bytes r → record_first_fault bytes ≡ None
 no_first_fault bytes r s =
     let found = means_found record_checks record_shape 0 (λ p stamps. record_of p.0) (from_start bytes) r s.means in
-    ap (λ (b : Bool). if b then Some (At 0 TooLong) else (elim (read record_checks record_shape 0 (from_start bytes)) [ Ok x ↦ None | Err e ↦ Some e ])) (le-ltb longest (length bytes) s.short)
+    ap (λ (b : Bool). if b then Some (At 0 TooLong) else (elim (read record_checks record_shape 0 (from_start bytes)) [ Ok x ↦ None | Err e ↦ Some e ])) (le-ltb longest_record (length bytes) s.short)
     ∙ ap (λ (o : Reading (RecordParts × Unit {0}) ℕ SyntaxFault). elim o as (λ z. Option SyntaxFault) [ Ok x ↦ None | Err e ↦ Some e ]) found.is
 
 syntax_of : Option SyntaxFault → Verdict

@@ -1,17 +1,15 @@
 -- Worked values of the definitions, so that a wrong rule in the specs does not check.
-use Rattle.std.proofs.Common.{◌≡◌, ℕ, true, false, List, [], ◌∷◌, ◌++◌, Some, None, map, refl}
+use Rattle.std.proofs.Common.{◌≡◌, true, false, List, [], ◌∷◌, Some, None, map, refl}
 use Rattle.algorithm_policy.specs.Content.{epoch}
-use Rattle.hash_kit.specs.declared.algorithm.HashAlg.TheVariants.{Sha256, Sha384, Sha512}
-use Rattle.hash_kit.specs.Digest.{digest_of}
+use Rattle.hash_kit.specs.declared.algorithm.HashAlg.TheVariants.{Sha384, Sha512}
 use Rattle.evidence_syntax.specs.Stamps.{Stamp}
-use Rattle.evidence_syntax.specs.Text.{sequence_spelling}
 use Rattle.evidence_verify.specs.declared.verdict.Cause.TheVariants.{Key, Hash}
 use Rattle.evidence_verify.specs.declared.verdict.Mode.TheVariants.{Member}
-use Rattle.evidence_verify.specs.Stamps.{Place, places_of, Checked}
+use Rattle.evidence_verify.specs.Stamps.{Place, places_of}
 use Rattle.evidence_verify.specs.Hashes.{is_named}
-use Rattle.evidence_verify.specs.Values.{document_value, Due}
+use Rattle.evidence_verify.specs.Values.{Owed}
 use Rattle.evidence_verify.specs.Covers.{whole_fault}
-use Rattle.evidence_verify.specs.Lapse.{key_lapse, hash_lapse, lapse_by}
+use Rattle.evidence_verify.specs.Marks.{Mark, key_lapse, hash_lapse, lapse_by}
 
 -- two chains, of two time-stamps and of one: their chains, their numbers in these, and the chains before
 numbers : (a b c : Stamp) → map (λ (p : Place). p.chain) (places_of ((a ∷ b ∷ []) ∷ (c ∷ []) ∷ [])) ≡ 0 ∷ 0 ∷ 1 ∷ []
@@ -36,24 +34,16 @@ by_sha256 = refl
 by_none : is_named Sha512 None ≡ true
 by_none = refl
 
--- the value of a document in the first chain, and in a later one
-first_value : (d : List ℕ) → document_value Sha256 [] d ≡ digest_of Sha256 d
-first_value d = refl
-
-later_value : (chain : List Stamp) (d : List ℕ)
-    → document_value Sha512 (chain ∷ []) d ≡ digest_of Sha512 (digest_of Sha512 d ++ digest_of Sha512 (sequence_spelling (chain ∷ [])))
-later_value chain d = refl
-
 -- an end is exclusive, and only the last of a chain is judged by its hash
-at_the_end : (c : Checked) → key_lapse c epoch (Some epoch) ≡ Some (lapse_by c Key epoch)
-at_the_end c = refl
+at_the_end : (m : Mark) → key_lapse m epoch (Some epoch) ≡ Some (lapse_by m Key epoch)
+at_the_end m = refl
 
-of_the_hash : (c : Checked) → hash_lapse c epoch true epoch ≡ Some (lapse_by c Hash epoch)
-of_the_hash c = refl
+of_the_hash : (m : Mark) → hash_lapse m epoch true epoch ≡ Some (lapse_by m Hash epoch)
+of_the_hash m = refl
 
-not_the_last : (c : Checked) → hash_lapse c epoch false epoch ≡ None
-not_the_last c = refl
+not_the_last : (m : Mark) → hash_lapse m epoch false epoch ≡ None
+not_the_last m = refl
 
 -- for members nothing is asked of the whole
-for_members : (dues : List Due) → whole_fault Member dues ≡ None
-for_members dues = refl
+for_members : (all_owed : List Owed) → whole_fault Member all_owed ≡ None
+for_members all_owed = refl

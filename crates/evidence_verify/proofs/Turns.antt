@@ -1,20 +1,17 @@
 -- One more of the items that a loop goes over.
-use Rattle.std.proofs.Common.{◌≡◌, Bool, false, Option, unwrap_or, ℕ, zero, suc, ◌+◌, ◌-◌, ◌<◌, List, [], ◌∷◌, ◌++◌, length, take, drop, get_or, map, Some, sym, ap, subst, ◌∙◌, arith, append_assoc, add-one, drop-cons, if◌then◌else◌, None}
-use Rattle.std.specs.Prelude.{slice_get, ◌==◌}
-use Rattle.std.proofs.lemmas.Bool.{false≢true}
+use Rattle.std.proofs.Common.{◌≡◌, Bool, Option, unwrap_or, ℕ, zero, suc, ◌+◌, ◌-◌, ◌<◌, List, [], ◌∷◌, ◌++◌, length, take, drop, get_or, map, Some, sym, ap, subst, ◌∙◌, arith, append_assoc, add-one, drop-cons, if◌then◌else◌, None}
+use Rattle.std.specs.Prelude.{slice_get}
 use Rattle.std.proofs.lemmas.List.{take_more, map-append}
 use Rattle.civil_moment.specs.declared.moment.Moment.{Moment}
-use Rattle.hash_kit.specs.declared.algorithm.HashAlg.{HashAlg}
-use Rattle.hash_kit.specs.Digest.{digest_of}
 use Rattle.evidence_syntax.specs.declared.stamps.Chain.{Chain}
-use Rattle.evidence_syntax.specs.Text.{sequence_spelling}
 use Rattle.evidence_syntax.specs.Stamps.{chain_seen, chains_seen}
 use Rattle.evidence_verify.specs.declared.stamps.Checked.{Checked as HeldChecked}
 use Rattle.evidence_verify.specs.declared.verdict.Verdict.{Verdict}
 use Rattle.evidence_verify.specs.declared.verdict.Verdict.TheVariants.{Early}
 use Rattle.evidence_verify.specs.Stamps.{Place, places_in, places_after}
-use Rattle.evidence_verify.specs.Order.{is_before, early_fault}
-use Rattle.evidence_verify.specs.Values.{document_value, Due, due_values, dues_after}
+use Rattle.civil_moment.specs.Moment.{is_before}
+use Rattle.evidence_verify.specs.Order.{early_fault}
+use Rattle.evidence_verify.specs.Values.{Owed, owed_values, owed_after}
 use Rattle.evidence_verify.specs.Inside.{checked_seen}
 
 -- the item stands here, before the rest
@@ -41,14 +38,14 @@ next_places chains n i x old new same lt is added =
 
 -- ---- values
 
-pub next_dues : (documents : List (List ℕ)) (before : List ℕ) (xs : List HeldChecked) (i : ℕ) (x : HeldChecked) (old new : List Due) → i < length xs → x ≡ get_or xs i x
-    → new ≡ old ++ record { stamp = checked_seen x; values = due_values documents before (checked_seen x) } ∷ []
-    → old ++ dues_after documents before (map checked_seen (drop i xs)) ≡ new ++ dues_after documents x.place.ats.now.token.now (map checked_seen (drop (i + 1) xs))
-next_dues documents before xs i x old new lt is added =
-    let due : Due = record { stamp = checked_seen x; values = due_values documents before (checked_seen x) } in
-    let later = dues_after documents x.place.ats.now.token.now (map checked_seen (drop (i + 1) xs)) in
-    ap (λ l. old ++ dues_after documents before (map checked_seen l)) (drop_here xs i x lt is)
-    ∙ sym (append_assoc old (due ∷ []) later)
+pub next_owed : (documents : List (List ℕ)) (before : List ℕ) (xs : List HeldChecked) (i : ℕ) (x : HeldChecked) (old new : List Owed) → i < length xs → x ≡ get_or xs i x
+    → new ≡ old ++ record { stamp = checked_seen x; values = owed_values documents before (checked_seen x) } ∷ []
+    → old ++ owed_after documents before (map checked_seen (drop i xs)) ≡ new ++ owed_after documents x.place.ats.now.token.now (map checked_seen (drop (i + 1) xs))
+next_owed documents before xs i x old new lt is added =
+    let owed : Owed = record { stamp = checked_seen x; values = owed_values documents before (checked_seen x) } in
+    let later = owed_after documents x.place.ats.now.token.now (map checked_seen (drop (i + 1) xs)) in
+    ap (λ l. old ++ owed_after documents before (map checked_seen l)) (drop_here xs i x lt is)
+    ∙ sym (append_assoc old (owed ∷ []) later)
     ∙ ap (λ l. l ++ later) (sym added)
 
 -- ---- the last time-stamp
@@ -65,11 +62,3 @@ early_last moment (y ∷ []) zero x last is =
 early_last moment (y ∷ []) (suc n) x last is = cc
 early_last moment (y ∷ z ∷ rest) zero x last is = absurd (omega (arith, last))
 early_last moment (y ∷ z ∷ rest) (suc n) x last is = early_last moment (z ∷ rest) n x (omega (arith, last)) is
-
--- ---- the values of a later chain
-
-pub renewed : (alg : HashAlg) (older : List Chain) (hash : List ℕ) (documents : List (List ℕ)) → false ≡ (length older == 0)
-    → hash ≡ digest_of alg (sequence_spelling (chains_seen older))
-    → map (λ (d : List ℕ). digest_of alg (digest_of alg d ++ hash)) documents ≡ map (document_value alg (chains_seen older)) documents
-renewed alg [] hash documents some is = absurd (false≢true some)
-renewed alg (c ∷ cs) hash documents some is = ap (λ (h : List ℕ). map (λ (d : List ℕ). digest_of alg (digest_of alg d ++ h)) documents) is

@@ -10,7 +10,7 @@ use Rattle.evidence_verify.specs.declared.verdict.Mode.TheVariants.{Member, Whol
 use Rattle.evidence_verify.specs.declared.verdict.Verdict.{Verdict}
 use Rattle.evidence_verify.specs.declared.verdict.Verdict.TheVariants.{NotCovered, NotWhole}
 use Rattle.evidence_verify.specs.Stamps.{Checked}
-use Rattle.evidence_verify.specs.Values.{Due}
+use Rattle.evidence_verify.specs.Values.{Owed}
 
 -- the imprint is one of the roots of the lists (4.3, step 5)
 abbrev pub IsRoot : HashAlg → List (List (List ℕ)) → List ℕ → Type 0
@@ -21,6 +21,7 @@ abbrev pub CoversBy : HashAlg → List ℕ → Option (List (List (List ℕ))) �
 CoversBy alg imprint None value = imprint ≡ value
 CoversBy alg imprint (Some lists) value = Contains (first_of lists) value × IsRoot alg lists imprint
 
+-- the time-stamp covers the value (RFC 4998, 4.3)
 abbrev pub Covers : Checked → List ℕ → Type 0
 Covers c value = CoversBy c.says.alg c.says.imprint c.place.ats.lists value
 
@@ -49,12 +50,14 @@ covers c value = covers_by c.says.alg c.says.imprint c.place.ats.lists value
 abbrev pub not_covered : Checked → ℕ → Verdict
 not_covered c number = NotCovered c.place.chain c.place.stamp (if c.place.stamp == 0 then Some number else None)
 
-unfoldable pub uncovered : Due → Option Verdict
-uncovered due = option_map (not_covered due.stamp) (position_from (λ v. not (covers due.stamp v)) 0 due.values)
+-- the first value that a time-stamp doesn't cover
+unfoldable pub uncovered : Owed → Option Verdict
+uncovered owed = option_map (not_covered owed.stamp) (position_from (λ v. not (covers owed.stamp v)) 0 owed.values)
 
-abbrev pub cover_fault : List Due → Option Verdict
+-- the first value that isn't covered, of all time-stamps in order
+abbrev pub cover_fault : List Owed → Option Verdict
 cover_fault [] = None
-cover_fault (due ∷ rest) = option_or (uncovered due) (cover_fault rest)
+cover_fault (owed ∷ rest) = option_or (uncovered owed) (cover_fault rest)
 
 -- ---- the first chain that covers more than the documents
 
@@ -64,15 +67,17 @@ is_whole None values = true
 is_whole (Some lists) values = list_all (has values) (first_of lists)
 
 -- only the first time-stamp of a chain is asked
-abbrev pub not_whole : Due → Option Verdict
-not_whole due =
-    if due.stamp.place.stamp == 0 && not (is_whole due.stamp.place.ats.lists due.values)
-    then Some (NotWhole due.stamp.place.chain) else None
+abbrev pub not_whole : Owed → Option Verdict
+not_whole owed =
+    if owed.stamp.place.stamp == 0 && not (is_whole owed.stamp.place.ats.lists owed.values)
+    then Some (NotWhole owed.stamp.place.chain) else None
 
-abbrev pub first_not_whole : List Due → Option Verdict
+-- the first chain that covers more than the documents
+abbrev pub first_not_whole : List Owed → Option Verdict
 first_not_whole [] = None
-first_not_whole (due ∷ rest) = option_or (not_whole due) (first_not_whole rest)
+first_not_whole (owed ∷ rest) = option_or (not_whole owed) (first_not_whole rest)
 
-abbrev pub whole_fault : Mode → List Due → Option Verdict
-whole_fault Member dues = None
-whole_fault Whole dues = first_not_whole dues
+-- the same where the documents have to be all that is covered, else none
+abbrev pub whole_fault : Mode → List Owed → Option Verdict
+whole_fault Member all_owed = None
+whole_fault Whole all_owed = first_not_whole all_owed

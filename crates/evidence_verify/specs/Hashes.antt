@@ -3,11 +3,12 @@ use Rattle.std.specs.Prelude.{◌==◌, Bool, true, false, ◌&&◌, List, [], �
 use Rattle.der_values.specs.Algorithm.{Name}
 use Rattle.hash_kit.specs.declared.algorithm.HashAlg.{HashAlg}
 use Rattle.hash_kit.specs.declared.algorithm.HashAlg.TheVariants.{Sha256, Sha384, Sha512}
-use Rattle.token_check.specs.Sound.{known_hash}
+use Rattle.cms_signed.specs.Names.{known_hash}
 use Rattle.evidence_verify.specs.declared.verdict.Verdict.{Verdict}
 use Rattle.evidence_verify.specs.declared.verdict.Verdict.TheVariants.{MixedHash}
 use Rattle.evidence_verify.specs.Stamps.{Checked}
 
+-- they are one hash algorithm
 abbrev pub is_same : HashAlg → HashAlg → Bool
 is_same Sha256 Sha256 = true
 is_same Sha256 Sha384 = false
@@ -44,6 +45,7 @@ mixed_after so_far (c ∷ rest) =
     if has_one_hash so_far c then mixed_after (chain_hash so_far c) rest
     else Some (MixedHash c.place.chain c.place.stamp)
 
+-- the first time-stamp of another hash than it names, or than its chain's
 abbrev pub mixed_fault : List Checked → Option Verdict
 mixed_fault [] = None
 mixed_fault (c ∷ rest) = mixed_after c.says.alg (c ∷ rest)

@@ -3,8 +3,9 @@ pub mod Hashes
 pub mod Order
 pub mod Values
 pub mod Covers
+pub mod Marks
 pub mod Lapse
 pub mod Verdict
 pub mod Holds
-pub mod Readable
+pub mod InsideChains
 pub mod Inside

@@ -1,14 +1,10 @@
 -- The order of times (RFC 4998, 5.3): no time-stamp is before the one before it, in its chain or the chain before.
-use Rattle.std.specs.Prelude.{Bool, List, [], ◌∷◌, Option, Some, None, if◌then◌else◌}
-use Rattle.std.specs.Ordering.{is_lt}
+use Rattle.std.specs.Prelude.{List, [], ◌∷◌, Option, Some, None, if◌then◌else◌}
 use Rattle.civil_moment.specs.declared.moment.Moment.{Moment}
-use Rattle.civil_moment.specs.Moment.{moment_order}
+use Rattle.civil_moment.specs.Moment.{is_before}
 use Rattle.evidence_verify.specs.declared.verdict.Verdict.{Verdict}
 use Rattle.evidence_verify.specs.declared.verdict.Verdict.TheVariants.{OutOfOrder, Early}
 use Rattle.evidence_verify.specs.Stamps.{Checked}
-
-abbrev pub is_before : Moment → Moment → Bool
-is_before a b = is_lt (moment_order a b)
 
 -- the first time-stamp that is before the one before it, where the first of them follows this moment
 abbrev pub order_after : Moment → List Checked → Option Verdict
@@ -17,6 +13,7 @@ order_after before (c ∷ rest) =
     if is_before c.says.time before then Some (OutOfOrder c.place.chain c.place.stamp)
     else order_after c.says.time rest
 
+-- the first time-stamp that is before the one before it
 abbrev pub order_fault : List Checked → Option Verdict
 order_fault [] = None
 order_fault (c ∷ rest) = order_after c.says.time rest

@@ -25,6 +25,7 @@ abbrev pub places_after : List (List Stamp) → List (List Stamp) → List Place
 places_after older [] = []
 places_after older (chain ∷ rest) = places_in older 0 chain ++ places_after (older ++ chain ∷ []) rest
 
+-- the places of all time-stamps of a record, in order
 abbrev pub places_of : List (List Stamp) → List Place
 places_of chains = places_after [] chains
 

@@ -12,7 +12,7 @@ use Rattle.evidence_verify.specs.declared.verdict.Verdict.TheVariants.{Valid, Sy
 use Rattle.evidence_verify.specs.Stamps.{Place, places_of, Checked, AreSound, IsFirstBad}
 use Rattle.evidence_verify.specs.Hashes.{mixed_fault}
 use Rattle.evidence_verify.specs.Order.{order_fault, early_fault}
-use Rattle.evidence_verify.specs.Values.{dues_of}
+use Rattle.evidence_verify.specs.Values.{owed_by}
 use Rattle.evidence_verify.specs.Covers.{cover_fault, whole_fault}
 use Rattle.evidence_verify.specs.Lapse.{lapse_of}
 
@@ -21,8 +21,8 @@ abbrev pub verdict_of : Content → List (List ℕ) → Mode → Moment → List
 verdict_of policy documents mode moment stamps =
     unwrap_or (mixed_fault stamps) (
     unwrap_or (order_fault stamps) (
-    unwrap_or (cover_fault (dues_of documents stamps)) (
-    unwrap_or (whole_fault mode (dues_of documents stamps)) (
+    unwrap_or (cover_fault (owed_by documents stamps)) (
+    unwrap_or (whole_fault mode (owed_by documents stamps)) (
     unwrap_or (early_fault moment stamps) (
     unwrap_or (option_map Lapsed (lapse_of policy moment stamps))
     Valid)))))

@@ -4,9 +4,9 @@ ghost use Rattle.std.specs.List.{position_from};
 ghost use Rattle.std.specs.Str.{bytes_eq};
 ghost use Rattle.reduced_tree.specs.Reduced.{AreFull, first_of};
 ghost use Rattle.evidence_verify.specs.Covers.{has, is_other, is_root, covers, not_covered, uncovered, cover_fault};
-ghost use Rattle.evidence_verify.specs.Inside.{checked_seen, due_seen};
+ghost use Rattle.evidence_verify.specs.Inside.{checked_seen, owed_seen};
 
-use crate::due::Due;
+use crate::owed::Owed;
 use crate::stamps::Checked;
 use crate::verdict::Verdict;
 use der_values::Items;
@@ -15,11 +15,14 @@ use reduced_tree::{contains_first, roots};
 use std::alloc::{AllocError, Global};
 
 /// The first value that its time-stamp does not cover.
-pub fn cover_fault(alloc: Global, dues: &[Due<'_, '_>]) -> Result<Option<Verdict>, AllocError>
-    ensures { IfOk result (λ fault. fault ≡ cover_fault (map due_seen dues.now)) }
+pub(crate) fn cover_fault(
+    alloc: Global,
+    all_owed: &[Owed<'_, '_>],
+) -> Result<Option<Verdict>, AllocError>
+    ensures { IfOk result (λ fault. fault ≡ cover_fault (map owed_seen all_owed.now)) }
 {
-    for due in dues {
-        let fault = uncovered(alloc, due)?;
+    for owed in all_owed {
+        let fault = uncovered(alloc, owed)?;
         if let Some(verdict) = fault {
             return Ok(Some(verdict));
         }
@@ -29,12 +32,12 @@ pub fn cover_fault(alloc: Global, dues: &[Due<'_, '_>]) -> Result<Option<Verdict
 
 // The first value that is not covered.
 #[tactic(auto, unfolding(crate::specs::Covers::uncovered))]
-fn uncovered(alloc: Global, due: &Due<'_, '_>) -> Result<Option<Verdict>, AllocError>
-    ensures { IfOk result (λ fault. fault ≡ uncovered (due_seen due.now)) }
+fn uncovered(alloc: Global, owed: &Owed<'_, '_>) -> Result<Option<Verdict>, AllocError>
+    ensures { IfOk result (λ fault. fault ≡ uncovered (owed_seen owed.now)) }
 {
-    let first = first_uncovered(alloc, due)?;
+    let first = first_uncovered(alloc, owed)?;
     match first {
-        Some(number) => Ok(Some(not_covered(&due.stamp, number))),
+        Some(number) => Ok(Some(not_covered(&owed.stamp, number))),
         None => Ok(None),
     }
 }
@@ -55,17 +58,17 @@ fn not_covered(stamp: &Checked<'_, '_>, number: u32) -> Verdict
     }
 }
 
-fn first_uncovered(alloc: Global, due: &Due<'_, '_>) -> Result<Option<u32>, AllocError>
+fn first_uncovered(alloc: Global, owed: &Owed<'_, '_>) -> Result<Option<u32>, AllocError>
     ensures { IfOk result (λ number. number
-        ≡ position_from (λ v. not (covers (checked_seen due.now.stamp) v)) 0 due.now.values.items) }
+        ≡ position_from (λ v. not (covers (checked_seen owed.now.stamp) v)) 0 owed.now.values.items) }
 {
-    let says = &due.stamp.says;
-    match &due.stamp.place.ats.lists {
+    let says = &owed.stamp.says;
+    match &owed.stamp.place.ats.lists {
         Some(lists) => {
             let rooted = is_root(alloc, says.alg, lists, says.imprint)?;
-            Ok(first_outside(lists, rooted, due.values.as_slice()))
+            Ok(first_outside(lists, rooted, owed.values.as_slice()))
         }
-        None => Ok(first_other(says.imprint, due.values.as_slice())),
+        None => Ok(first_other(says.imprint, owed.values.as_slice())),
     }
 }
 

@@ -12,7 +12,7 @@ use hash_kit::HashAlg;
 use token_check::known_hash;
 
 /// The first time-stamp of another hash than its chain, or than the one that is named.
-pub fn mixed_fault(stamps: &[Checked<'_, '_>]) -> Option<Verdict>
+pub(crate) fn mixed_fault(stamps: &[Checked<'_, '_>]) -> Option<Verdict>
     ensures { result ≡ mixed_fault (map checked_seen stamps.now) }
 {
     match stamps.first() {

@@ -1,18 +1,19 @@
-ghost use Rattle.std.specs.Prelude.{◌≡◌, ◌≤◌, length, map, IfOk};
+ghost use Rattle.std.specs.Prelude.{◌≡◌, ◌≤◌, [], length, map, IfOk};
 ghost use Rattle.evidence_syntax.specs.Stamps.{chains_seen};
 ghost use Rattle.evidence_verify.specs.declared.verdict.Verdict.{Verdict};
 ghost use Rattle.evidence_verify.specs.Stamps.{places_of};
 ghost use Rattle.evidence_verify.specs.Verdict.{verdict_of, Judges, Verdicts};
-ghost use Rattle.evidence_verify.specs.Inside.{checked_seen};
-ghost use Rattle.evidence_verify.specs.Readable.{WereRead};
+ghost use Rattle.evidence_verify.specs.Inside.{checked_seen, places_seen, GoOn};
+ghost use Rattle.evidence_verify.specs.InsideChains.{WereRead};
 
 use crate::covering::cover_fault;
 use crate::hashes::mixed_fault;
 use crate::lapse::first_lapse;
+use crate::mark::marks;
 use crate::order::{early_fault, order_fault};
 use crate::places::places;
 use crate::stamps::{Checked, StampFault, sound_stamps};
-use crate::values::dues;
+use crate::values::owed_by;
 use crate::verdict::{Mode, Verdict};
 use crate::whole::whole_fault;
 use algorithm_policy::Policy;
@@ -92,7 +93,8 @@ fn judge_stamps(
     policy: &Policy,
     moment: Moment,
 ) -> Result<Verdict, AllocError>
-    requires { length documents.now ≤ 64 }
+    requires few { length documents.now ≤ 64 }
+    requires go_on { GoOn [] (places_seen stamps.now) }
     ensures { IfOk result (λ verdict. verdict
         ≡ verdict_of policy.now documents.now mode moment (map checked_seen stamps.now)) }
 {
@@ -102,17 +104,18 @@ fn judge_stamps(
     if let Some(verdict) = order_fault(stamps) {
         return Ok(verdict);
     }
-    let dues = dues(alloc, documents, stamps)?;
-    if let Some(verdict) = cover_fault(alloc, dues.as_slice())? {
+    let all_owed = owed_by(alloc, documents, stamps)?;
+    if let Some(verdict) = cover_fault(alloc, all_owed.as_slice())? {
         return Ok(verdict);
     }
-    if let Some(verdict) = whole_fault(mode, dues.as_slice()) {
+    if let Some(verdict) = whole_fault(mode, all_owed.as_slice()) {
         return Ok(verdict);
     }
     if let Some(verdict) = early_fault(moment, stamps) {
         return Ok(verdict);
     }
-    match first_lapse(policy, moment, stamps) {
+    let marks = marks(alloc, stamps)?;
+    match first_lapse(policy, moment, marks.as_slice()) {
         Some(lapse) => Ok(Verdict::Lapsed(lapse)),
         None => Ok(Verdict::Valid),
     }

@@ -3,12 +3,13 @@
 #![tactic(auto)]
 
 mod covering;
-mod due;
 mod hashes;
 mod judging;
 mod lapse;
 pub mod laws;
+mod mark;
 mod order;
+mod owed;
 mod place;
 mod places;
 mod stamps;
@@ -17,6 +18,8 @@ mod verdict;
 mod whole;
 
 pub use judging::verify;
+pub use lapse::first_lapse;
+pub use mark::Mark;
 pub use verdict::{Cause, Lapse, Mode, Verdict};
 
 #[cfg(test)]

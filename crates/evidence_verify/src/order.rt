@@ -1,22 +1,14 @@
 // The order of times.
 ghost use Rattle.std.specs.Prelude.{◌≡◌, map};
-ghost use Rattle.evidence_verify.specs.Order.{is_before, order_after, order_fault, early_fault};
+ghost use Rattle.evidence_verify.specs.Order.{order_after, order_fault, early_fault};
 ghost use Rattle.evidence_verify.specs.Inside.{checked_seen};
 
 use crate::stamps::Checked;
 use crate::verdict::Verdict;
-use civil_moment::{Moment, moment_cmp};
-use std::cmp::Ordering;
-
-/// Whether the first moment is before the second.
-pub fn is_before(a: &Moment, b: &Moment) -> bool
-    ensures { result ≡ is_before a.now b.now }
-{
-    moment_cmp(a, b) == Ordering::Less
-}
+use civil_moment::{Moment, is_before};
 
 /// The first time-stamp that is before the one before it.
-pub fn order_fault(stamps: &[Checked<'_, '_>]) -> Option<Verdict>
+pub(crate) fn order_fault(stamps: &[Checked<'_, '_>]) -> Option<Verdict>
     ensures { result ≡ order_fault (map checked_seen stamps.now) }
 {
     match stamps.split_first() {
@@ -42,7 +34,7 @@ fn order_after(first: Moment, stamps: &[Checked<'_, '_>]) -> Option<Verdict>
 }
 
 /// The moment, where it is before the last time.
-pub fn early_fault(moment: Moment, stamps: &[Checked<'_, '_>]) -> Option<Verdict>
+pub(crate) fn early_fault(moment: Moment, stamps: &[Checked<'_, '_>]) -> Option<Verdict>
     ensures { result ≡ early_fault moment (map checked_seen stamps.now) }
 {
     let stamp = stamps.last()?;

@@ -1,12 +1,12 @@
 ghost use Rattle.std.proofs.Props.{props};
 ghost use Rattle.evidence_syntax.specs.Stamps.{stamp_seen, chains_seen};
-ghost use Rattle.evidence_verify.specs.Readable.{AreShort, HasTree};
+ghost use Rattle.evidence_verify.specs.InsideChains.{AreShort, HasTree};
 
 use evidence_syntax::{Ats, Chain};
 
 /// An archive time-stamp in its place.
 #[derive(Clone, Copy)]
-pub struct Place<'r, 'a> {
+pub(crate) struct Place<'r, 'a> {
     /// The chains before its own.
     pub older: &'r [Chain<'a>],
     /// The number of its chain.

@@ -3,7 +3,7 @@ ghost use Rattle.std.specs.Prelude.{◌≡◌, ◌<◌, ◌^◌, ◌++◌, lengt
 ghost use Rattle.std.specs.List.{AllByRecursion};
 ghost use Rattle.evidence_syntax.specs.Stamps.{stamp_seen, chains_seen};
 ghost use Rattle.evidence_verify.specs.Stamps.{places_in, places_of};
-ghost use Rattle.evidence_verify.specs.Readable.{AreShort, HasTree, WereRead};
+ghost use Rattle.evidence_verify.specs.InsideChains.{AreShort, HasTree, WereRead};
 ghost use Rattle.evidence_verify.specs.Inside.{place_seen};
 
 use crate::place::Place;
@@ -11,7 +11,7 @@ use evidence_syntax::{Ats, Chain};
 use std::alloc::{AllocError, Global};
 
 /// Each archive time-stamp in its place.
-pub fn places<'r, 'a>(
+pub(crate) fn places<'r, 'a>(
     alloc: Global,
     chains: &'r [Chain<'a>],
 ) -> Result<Vec<Place<'r, 'a>>, AllocError>

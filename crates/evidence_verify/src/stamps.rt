@@ -13,14 +13,14 @@ use token_check::{CheckedStamp, TokenFault, check_token};
 
 /// An archive time-stamp whose token is sound, and what the token says.
 #[derive(Clone, Copy)]
-pub struct Checked<'r, 'a> {
+pub(crate) struct Checked<'r, 'a> {
     pub place: Place<'r, 'a>,
     pub says: CheckedStamp<'a>,
 }
 
 /// Why tokens were not accepted.
 #[derive(Clone, Copy)]
-pub enum StampFault {
+pub(crate) enum StampFault {
     /// One is not sound. This is the verdict.
     Bad(Verdict),
     /// Memory ran out. Nothing is said of the tokens.
@@ -36,7 +36,7 @@ impl<T: Drop> From<AllocFailed<T>> for StampFault {
 }
 
 /// What each token says, or the verdict on the first that is not sound.
-pub fn sound_stamps<'r, 'a>(
+pub(crate) fn sound_stamps<'r, 'a>(
     alloc: Global,
     places: &[Place<'r, 'a>],
     policy: &Policy,

@@ -2,7 +2,7 @@ use Rattle.std.proofs.Common.{◌≡◌, ◌++◌, length, drop, map}
 use Rattle.std.specs.List.{AllByRecursion}
 use Rattle.evidence_syntax.specs.Stamps.{stamp_seen, chains_seen}
 use Rattle.evidence_verify.specs.Stamps.{places_in}
-use Rattle.evidence_verify.specs.Readable.{HasTree}
+use Rattle.evidence_verify.specs.InsideChains.{HasTree}
 use Rattle.evidence_verify.specs.Inside.{place_seen}
 use Rattle.evidence_verify.proofs.places.add_places.Given as goal
 

@@ -3,7 +3,7 @@ use Rattle.std.specs.List.{AllByRecursion}
 use Rattle.std.proofs.lemmas.List.{take-map}
 use Rattle.evidence_syntax.specs.Stamps.{stamp_seen, chain_seen, chains_seen}
 use Rattle.evidence_verify.specs.Stamps.{places_in}
-use Rattle.evidence_verify.specs.Readable.{AreShort, IsReadable}
+use Rattle.evidence_verify.specs.InsideChains.{AreShort, IsReadable}
 use Rattle.evidence_verify.specs.Inside.{place_seen}
 use Rattle.evidence_verify.proofs.Turns.{drop_here, next_places}
 use Rattle.evidence_verify.proofs.places.places.Goals as goal

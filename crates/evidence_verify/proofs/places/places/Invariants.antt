@@ -2,7 +2,7 @@ use Rattle.std.proofs.Common.{◌≡◌, ◌++◌, drop, take, map}
 use Rattle.std.specs.List.{AllByRecursion}
 use Rattle.evidence_syntax.specs.Stamps.{chains_seen}
 use Rattle.evidence_verify.specs.Stamps.{places_after, places_of}
-use Rattle.evidence_verify.specs.Readable.{IsReadable}
+use Rattle.evidence_verify.specs.InsideChains.{IsReadable}
 use Rattle.evidence_verify.specs.Inside.{place_seen}
 use Rattle.evidence_verify.proofs.places.places.Given as goal
 

@@ -5,7 +5,7 @@ use hash_kit::HashValue;
 
 /// A time-stamp, and the values that it has to cover.
 #[derive(Drop)]
-pub struct Due<'r, 'a> {
+pub(crate) struct Owed<'r, 'a> {
     pub stamp: Checked<'r, 'a>,
     pub values: Vec<HashValue>,
     pub ghost few: { length values.items ≤ 64 },
