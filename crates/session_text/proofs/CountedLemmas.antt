@@ -1,17 +1,16 @@
 -- Counted bytes: what is read is what stands there, and what is spelled is read.
-use Rattle.std.proofs.Common.{◌≡◌, ℕ, ◌+◌, ◌^◌, ◌<◌, ◌≤◌, ◌==◌, Bool, true, false, nat_lt, List, [], ◌∷◌, ◌++◌, length, take, drop, Result, Ok, Err, refl, sym, ap, subst, ◌∙◌, arith, append_assoc, length-append}
+use Rattle.std.proofs.Common.{◌≡◌, ℕ, ◌+◌, ◌^◌, ◌<◌, ◌≤◌, ◌==◌, false, nat_lt, List, [], ◌∷◌, ◌++◌, length, take, drop, Ok, refl, sym, ap, subst, ◌∙◌, arith, append_assoc, length-append}
 use Rattle.std.specs.Prelude.{decimal}
-use Rattle.std.proofs.lemmas.Bool.{le-ltb, ltb-false, eq-eqb, eqb-true}
+use Rattle.std.proofs.lemmas.Bool.{le-ltb, ltb-false, eqb-true}
 use Rattle.std.proofs.lemmas.List.{take_at, drop_at, take-append-drop, length-take-le}
-use Rattle.der_values.specs.Steps.{◌>>=◌}
 use Rattle.der_values.proofs.Values.{bind_ok, ok_is, guard_ok, guard_then}
 use Rattle.session_text.specs.declared.shape.ShapeFault.{ShapeFault}
-use Rattle.session_text.specs.Unread.{Unread, Reading}
+use Rattle.session_text.specs.Unread.{Unread}
 use Rattle.session_text.specs.Words.{keyword_at, number_at}
 use Rattle.session_text.specs.Counted.{mark_on, bytes_at, counted_at, counted_text}
 use Rattle.session_text.proofs.Passing.{Passes}
 use Rattle.session_text.proofs.WordLemmas.{IsPlain, keyword_again, keyword_takes}
-use Rattle.session_text.proofs.NumberLemmas.{NumberTaken, number_again, number_takes}
+use Rattle.session_text.proofs.NumberLemmas.{number_again, number_takes}
 
 mark_again : (place : ℕ) (tail : List ℕ) → Passes tt tail (mark_on place (10 ∷ tail))
 unfolding mark_on

@@ -1,5 +1,5 @@
 -- Documents that were read so far, and those that are read from here on.
-use Rattle.std.proofs.Common.{◌≡◌, ℕ, zero, suc, ◌+◌, ◌<◌, ◌≤◌, Bool, true, false, List, [], ◌∷◌, ◌++◌, length, Result, Ok, Err, refl, sym, ap, subst, ◌∙◌, arith, append_assoc, length-append}
+use Rattle.std.proofs.Common.{◌≡◌, ℕ, zero, suc, ◌+◌, ◌<◌, true, false, List, [], ◌∷◌, ◌++◌, length, Result, Ok, Err, refl, sym, ap, ◌∙◌, arith, append_assoc, length-append}
 use Rattle.std.proofs.lemmas.List.{append-nil}
 use Rattle.std.specs.Prelude.{IfErr, IsErrAnd}
 use Rattle.der_values.specs.Steps.{◌>>=◌}
@@ -7,7 +7,7 @@ use Rattle.der_values.specs.Next.{is_empty}
 use Rattle.der_values.specs.Reading.{Unless}
 use Rattle.session_text.specs.declared.shape.ShapeFault.{ShapeFault}
 use Rattle.session_text.specs.declared.shape.ShapeFault.TheVariants.{At, Memory}
-use Rattle.session_text.specs.Unread.{Unread, Reading, is_memory, followed}
+use Rattle.session_text.specs.Unread.{Unread, Reading, is_memory}
 use Rattle.session_text.specs.VerifyInput.{document_at, documents_at, all_documents_at}
 use Rattle.session_text.specs.Inside.{ReadsDocuments}
 

@@ -7,4 +7,5 @@ mod VerifyLemmas
 mod DocumentLoop
 mod ReadLemmas
 mod LineLemmas
+mod Adding
 mod StandardFacts

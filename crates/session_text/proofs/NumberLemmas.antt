@@ -1,18 +1,17 @@
 -- Numbers: a number has one spelling, and each spelling is read as its number.
-use Rattle.std.proofs.Common.{◌≡◌, ℕ, zero, suc, ◌+◌, ◌-◌, ◌*◌, ◌^◌, ◌<◌, ◌≤◌, ◌==◌, Bool, true, false, not, ◌&&◌, nat_lt, nat_le, List, [], ◌∷◌, ◌++◌, length, take, get_or, Result, Ok, Err, refl, sym, ap, subst, ◌∙◌, arith, rules, ◌⊎◌, inl, inr}
+use Rattle.std.proofs.Common.{◌≡◌, ℕ, zero, suc, ◌+◌, ◌-◌, ◌*◌, ◌^◌, ◌<◌, ◌≤◌, ◌==◌, Bool, true, false, not, nat_lt, nat_le, List, [], ◌∷◌, ◌++◌, length, take, get_or, Ok, refl, sym, ap, subst, ◌∙◌, arith, rules}
 use Rattle.std.specs.Prelude.{decimal}
 use Rattle.std.specs.Char.{is_ascii_digit}
 use Rattle.std.specs.List.{list_all}
-use Rattle.std.proofs.lemmas.Bool.{and_parts, and_from, lt-ltb, le-ltb, ltb-false, leb-true, ne_eqb, eq-eqb}
+use Rattle.std.proofs.lemmas.Bool.{and_parts, and_from, le-ltb, ltb-false, leb-true, ne_eqb, eq-eqb}
 use Rattle.std.proofs.lemmas.Bool.Decides.{nat_tests}
 use Rattle.std.proofs.Math.Nat.{pow-suc, pow-le-pow_right}
 use Rattle.std.proofs.lemmas.Fmt.{digits_decimal, digits_value-decimal, decimal-digits_value, decimal_nonempty, length-decimal-le, first_decimal, decimal_digit}
 use Rattle.std.proofs.lemmas.Str.Parse.{IsNumeralModel, numerals_by_fold}
-use Rattle.der_values.specs.Steps.{◌>>=◌}
 use Rattle.der_values.specs.Next.{is_empty}
 use Rattle.der_values.proofs.Values.{bind_ok, ok_is, guard_ok}
 use Rattle.session_text.specs.declared.shape.ShapeFault.{ShapeFault}
-use Rattle.session_text.specs.Unread.{Unread, Reading}
+use Rattle.session_text.specs.Unread.{Unread}
 use Rattle.session_text.specs.Words.{ends_word, word_at, separator_on, leads_with_zero, is_number, number_on, number_of, number_in, number_at}
 use Rattle.session_text.proofs.Passing.{Passes}
 use Rattle.session_text.proofs.WordLemmas.{IsPlain, word_again, word_takes, separator_again, separator_takes}

@@ -1,6 +1,5 @@
 -- Readings that pass, one after another.
-use Rattle.std.proofs.Common.{◌≡◌, ℕ, Bool, true, false, cond, List, Result, Ok, Err, refl, ◌∙◌, sym, ap, subst}
-use Rattle.der_values.specs.Steps.{◌>>=◌}
+use Rattle.std.proofs.Common.{◌≡◌, ℕ, Bool, true, false, cond, List, Result, Ok, Err, refl, subst}
 use Rattle.der_values.proofs.Values.{bind_ok, ok_is}
 use Rattle.session_text.specs.declared.shape.ShapeFault.{ShapeFault}
 use Rattle.session_text.specs.Unread.{Unread, Reading, followed}

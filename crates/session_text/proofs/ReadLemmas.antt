@@ -1,5 +1,5 @@
 -- What a reading answers is what the bytes spell, and what they spell is answered.
-use Rattle.std.proofs.Common.{◌≡◌, ℕ, Bool, true, false, List, ◌∷◌, Result, Ok, Err, refl, sym, ap, ◌∙◌}
+use Rattle.std.proofs.Common.{◌≡◌, ℕ, List, Result, Ok, Err, refl}
 use Rattle.std.specs.Prelude.{IfOk, IfErr}
 use Rattle.der_values.specs.Reading.{Unless, AnswersUnless}
 use Rattle.session_text.specs.declared.shape.ShapeFault.{ShapeFault}

@@ -1,12 +1,15 @@
 -- Values that the formats of inputs and verdicts give.
-use Rattle.std.proofs.Common.{◌≡◌, ℕ, true, false, List, [], ◌∷◌, Some, None, refl}
+use Rattle.std.proofs.Common.{◌≡◌, true, false, [], Some, refl}
 use Rattle.std.specs.Prelude.{codes}
 use Rattle.std.specs.Fmt.{digits}
 use Rattle.der_values.specs.declared.fault.DerKind.TheVariants as ders
+use Rattle.algorithm_policy.specs.Text.{longest_policy}
+use Rattle.object_groups.specs.Groups.{most_documents, longest_document}
+use Rattle.evidence_syntax.specs.Record.{longest_record}
 use Rattle.evidence_syntax.specs.declared.fault.SyntaxKind.TheVariants as kinds
 use Rattle.evidence_verify.specs.declared.verdict.Verdict.TheVariants.{Valid, Syntax, NotCovered, NotWhole}
 use Rattle.session_text.specs.declared.shape.ShapeFault.TheVariants.{At}
-use Rattle.session_text.specs.declared.shape.ShapeKind.TheVariants.{Word, Cut}
+use Rattle.session_text.specs.declared.shape.ShapeKind.TheVariants.{Cut}
 use Rattle.session_text.specs.Words.{word_at, keyword_at, is_number}
 use Rattle.session_text.specs.VerifyInput.{verify_first_fault}
 use Rattle.session_text.specs.Verdicts.{verdict_words}
@@ -25,6 +28,19 @@ no_digit = refl
 nothing_at_all : verify_first_fault [] ≡ Some (At 0 Cut)
 unfolding keyword_at word_at
 nothing_at_all = refl
+
+-- the limits of an input
+policy_limit : longest_policy ≡ 262144
+policy_limit = refl
+
+record_limit : longest_record ≡ 16777216
+record_limit = refl
+
+document_limit : longest_document ≡ 1048576
+document_limit = refl
+
+documents_limit : most_documents ≡ 64
+documents_limit = refl
 
 -- lines of verdicts
 good : verdict_words Valid [] [] ≡ codes "valid"

@@ -1,16 +1,14 @@
 -- A verification: what is read is what stands there, and what is spelled is read.
-use Rattle.std.proofs.Common.{◌≡◌, ℕ, zero, suc, ◌+◌, ◌^◌, ◌<◌, ◌≤◌, Bool, true, false, List, [], ◌∷◌, ◌++◌, length, Option, Some, None, Result, Ok, Err, refl, sym, ap, subst, ◌∙◌, arith, append_assoc, ◌⊎◌, inl, inr}
+use Rattle.std.proofs.Common.{◌≡◌, ℕ, zero, suc, ◌≤◌, Bool, true, false, List, [], ◌∷◌, ◌++◌, length, None, Result, Ok, Err, refl, sym, ap, subst, ◌∙◌, arith, ◌⊎◌, inl, inr}
 use Rattle.std.specs.Prelude.{codes, if◌then◌else◌}
 use Rattle.std.specs.List.{flat_map, AllByRecursion}
 use Rattle.std.specs.Str.{bytes_eq}
 use Rattle.std.proofs.lemmas.Slice.Eq.{bytes_eq-Decides}
-use Rattle.std.proofs.lemmas.Bool.{cases_Bool}
 use Rattle.civil_moment.specs.declared.moment.Moment.{Moment}
 use Rattle.civil_moment.specs.Moment.{Text}
 use Rattle.civil_moment.proofs.FirstFault.{one_moment}
-use Rattle.der_values.specs.Steps.{◌>>=◌}
 use Rattle.der_values.specs.Next.{is_empty}
-use Rattle.der_values.proofs.Values.{bind_ok, ok_is, guard_ok}
+use Rattle.der_values.proofs.Values.{bind_ok, ok_is}
 use Rattle.evidence_verify.specs.declared.verdict.Mode.{Mode}
 use Rattle.evidence_verify.specs.declared.verdict.Mode.TheVariants.{Member, Whole}
 use Rattle.session_text.specs.declared.shape.ShapeFault.{ShapeFault}
@@ -18,10 +16,14 @@ use Rattle.session_text.specs.declared.shape.ShapeKind.TheVariants.{Word}
 use Rattle.session_text.specs.Unread.{Unread, Reading, shape_fault, followed}
 use Rattle.session_text.specs.Words.{word_at, separator_on, keyword_at, time_at}
 use Rattle.session_text.specs.Counted.{counted_at, counted_text}
-use Rattle.session_text.specs.VerifyInput.{longest_policy, longest_evidence, longest_document, Verification, mode_text, document_text, verification_text, IsVerification, mode_in, mode_at, document_at, documents_at, all_documents_at, VerifyParts, verify_at, from_start, fault_of, verify_first_fault}
-use Rattle.session_text.proofs.Passing.{Passes, Both, both, both_pass}
-use Rattle.session_text.proofs.WordLemmas.{word_again, word_takes, separator_again, separator_takes, behind_word, keyword_again, keyword_takes, time_again, time_takes}
-use Rattle.session_text.proofs.CountedLemmas.{CountedTaken, counted_takes, counted_again}
+use Rattle.algorithm_policy.specs.Text.{longest_policy}
+use Rattle.evidence_syntax.specs.Record.{longest_record}
+use Rattle.object_groups.specs.Groups.{longest_document}
+use Rattle.session_text.specs.VerifyInput.{Verification, mode_text, document_text, IsVerification, mode_in, mode_at, document_at, documents_at, all_documents_at, VerifyParts, verify_at, from_start, fault_of, verify_first_fault}
+use Rattle.session_text.specs.Inside.{ReadsTime}
+use Rattle.session_text.proofs.Passing.{Passes, both, both_pass}
+use Rattle.session_text.proofs.WordLemmas.{word_again, separator_again, behind_word, keyword_again, keyword_takes, time_again, time_takes}
+use Rattle.session_text.proofs.CountedLemmas.{counted_takes, counted_again}
 
 -- ---- the mode
 
@@ -131,7 +133,7 @@ behind_verify mode time policy evidence ds = mode_text mode ++ (32 ∷ behind_mo
 
 -- what stands behind a part is read in its turn
 abbrev after_policy : Unread → Reading (List ℕ × (List ℕ × List (List ℕ)))
-after_policy = followed (counted_at (codes "record") longest_evidence) all_documents_at
+after_policy = followed (counted_at (codes "record") longest_record) all_documents_at
 
 abbrev after_time : Unread → Reading (List ℕ × (List ℕ × (List ℕ × List (List ℕ))))
 after_time = followed (counted_at (codes "policy") longest_policy) after_policy
@@ -145,7 +147,7 @@ after_verify = followed (mode_at 32) after_mode
 pub record VerifyTaken (bytes : List ℕ) (m : Mode) (time policy evidence first : List ℕ) (further : List (List ℕ)) : Type 0 where
   pub is : bytes ≡ codes "verify" ++ (32 ∷ behind_verify m time policy evidence (first ∷ further))
   pub policy_fits : length policy ≤ longest_policy
-  pub evidence_fits : length evidence ≤ longest_evidence
+  pub evidence_fits : length evidence ≤ longest_record
   pub few : length further ≤ 63
   pub each : AllByRecursion IsDocument (first ∷ further)
 
@@ -156,10 +158,10 @@ verify_takes before y after e =
     let b = both (mode_at 32) after_mode a.middle y.1 after a.other in
     let c = both (time_at 10) after_time b.middle y.1.1 after b.other in
     let d = both (counted_at (codes "policy") longest_policy) after_policy c.middle y.1.1.1 after c.other in
-    let f = both (counted_at (codes "record") longest_evidence) all_documents_at d.middle y.1.1.1.1 after d.other in
+    let f = both (counted_at (codes "record") longest_record) all_documents_at d.middle y.1.1.1.1 after d.other in
     let g = both document_at (documents_at 63) f.middle y.1.1.1.1.1 after f.other in
     let policy = counted_takes (codes "policy") longest_policy c.middle y.1.1.1.0 d.middle (omega arith) d.one in
-    let evidence = counted_takes (codes "record") longest_evidence d.middle y.1.1.1.1.0 f.middle (omega arith) f.one in
+    let evidence = counted_takes (codes "record") longest_record d.middle y.1.1.1.1.0 f.middle (omega arith) f.one in
     let one = counted_takes (codes "doc") longest_document f.middle y.1.1.1.1.1.0 g.middle (omega arith) g.one in
     let more = documents_take 63 g.middle y.1.1.1.1.1.1 after g.other in
     let documents = one.is ∙ ap (λ (l : List ℕ). document_text y.1.1.1.1.1.0 ++ l) more.is in
@@ -185,7 +187,7 @@ pub record Again (bytes : List ℕ) (v : Verification) : Type 0 where
   pub is : verify_at (from_start bytes) ≡ Ok ((tt, (v.mode, (time, (v.policy, (v.evidence, (first, further)))))), after)
   pub all : v.documents ≡ first ∷ further
 
-again_of : (m : Mode) (moment : Moment) (time policy evidence d : List ℕ) (ds : List (List ℕ)) → Text time moment → length policy ≤ longest_policy → length evidence ≤ longest_evidence → length ds ≤ 63 → AllByRecursion IsDocument (d ∷ ds)
+again_of : (m : Mode) (moment : Moment) (time policy evidence d : List ℕ) (ds : List (List ℕ)) → Text time moment → length policy ≤ longest_policy → length evidence ≤ longest_record → length ds ≤ 63 → AllByRecursion IsDocument (d ∷ ds)
     → Passes (tt, (m, (time, (policy, (evidence, (d, ds)))))) [] (verify_at (from_start (codes "verify" ++ (32 ∷ behind_verify m time policy evidence (d ∷ ds)))))
 again_of m moment time policy evidence d ds says policy_fits evidence_fits few each =
     both_pass (keyword_at (codes "verify") 32) after_verify _ tt (m, (time, (policy, (evidence, (d, ds))))) (behind_verify m time policy evidence (d ∷ ds)) []
@@ -196,8 +198,8 @@ again_of m moment time policy evidence d ds says policy_fits evidence_fits few e
     (time_again q 10 time moment (behind_time policy evidence (d ∷ ds)) says refl) (λ r.
     both_pass (counted_at (codes "policy") longest_policy) after_policy _ policy (evidence, (d, ds)) (behind_policy evidence (d ∷ ds)) []
     (counted_again r (codes "policy") longest_policy policy (behind_policy evidence (d ∷ ds)) refl policy_fits (omega arith)) (λ s.
-    both_pass (counted_at (codes "record") longest_evidence) all_documents_at _ evidence (d, ds) (behind_record (d ∷ ds)) []
-    (counted_again s (codes "record") longest_evidence evidence (behind_record (d ∷ ds)) refl evidence_fits (omega arith)) (λ t.
+    both_pass (counted_at (codes "record") longest_record) all_documents_at _ evidence (d, ds) (behind_record (d ∷ ds)) []
+    (counted_again s (codes "record") longest_record evidence (behind_record (d ∷ ds)) refl evidence_fits (omega arith)) (λ t.
     both_pass document_at (documents_at 63) _ d ds (behind_record ds) []
     (counted_again t (codes "doc") longest_document d (behind_record ds) refl each.0 (omega arith))
     (λ u. documents_again u 63 ds few each.1))))))
@@ -235,7 +237,7 @@ is_verification bytes v y after e mode says policy evidence documents =
       says = says;
       spelled = t.is ∙ text y.1.0 v.mode y.1.1.1.0 v.policy y.1.1.1.1.0 v.evidence (y.1.1.1.1.1.0 ∷ y.1.1.1.1.1.1) v.documents mode policy evidence (sym documents);
       policy = subst (λ (l : List ℕ). length l ≤ longest_policy) policy t.policy_fits;
-      evidence = subst (λ (l : List ℕ). length l ≤ longest_evidence) evidence t.evidence_fits;
+      evidence = subst (λ (l : List ℕ). length l ≤ longest_record) evidence t.evidence_fits;
       some = omega arith;
       few = omega arith;
       each = subst (λ (l : List (List ℕ)). AllByRecursion IsDocument l) (sym documents) t.each;
@@ -266,3 +268,37 @@ pub one_verification : (bytes : List ℕ) (v w : Verification) → IsVerificatio
 one_verification bytes v w i j =
     let a = again bytes v i in
     same bytes w j _ a.after a.is v.mode v.moment v.policy v.evidence v.documents refl a.says refl refl a.all
+
+-- what has no fault is read
+passed : (bytes : List ℕ) → verify_first_fault bytes ≡ None → (x : VerifyParts × Unread) × (verify_at (from_start bytes) ≡ Ok x)
+passed bytes none = at (verify_at (from_start bytes)) refl
+  where
+    at : (r : Reading VerifyParts) → verify_at (from_start bytes) ≡ r → (x : VerifyParts × Unread) × (verify_at (from_start bytes) ≡ Ok x)
+    at (Ok x) e = (x, e)
+    at (Err f) e = absurd (let wrong = sym (ap fault_of e) ∙ none in cc)
+
+-- what stands before the policy was read up to here
+pub record HasHead (bytes : List ℕ) (x : VerifyParts × Unread) (behind_mode : Unread) : Type 0 where
+  pub after : Unread
+  pub time : time_at 10 behind_mode ≡ Ok (x.0.1.1.0, after)
+
+pub head : (bytes : List ℕ) (x : VerifyParts × Unread) (first second : Unread) (m : Mode) → verify_at (from_start bytes) ≡ Ok x → keyword_at (codes "verify") 32 (from_start bytes) ≡ Ok (tt, first) → mode_at 32 first ≡ Ok (m, second)
+    → HasHead bytes x second
+head bytes x first second m e one two =
+    let a = both (keyword_at (codes "verify") 32) after_verify (from_start bytes) x.0 x.1 e in
+    let middle : a.middle ≡ first = ap (λ (z : Unit {0} × Unread). z.1) (ok_is {A = Unit {0} × Unread} {F = ShapeFault} _ _ (sym a.one ∙ one)) in
+    let b = both (mode_at 32) after_mode a.middle x.0.1 x.1 a.other in
+    let behind : b.middle ≡ second = ap (λ (z : Mode × Unread). z.1) (ok_is {A = Mode × Unread} {F = ShapeFault} _ _ (sym b.one ∙ ap (mode_at 32) middle ∙ two)) in
+    let c = both (time_at 10) after_time b.middle x.0.1.1 x.1 b.other in
+    record { after = c.middle; time = ap (time_at 10) (sym behind) ∙ c.one }
+
+-- what has no fault is a verification, if the text of its time says a moment
+pub whole : (bytes : List ℕ) (first second : Unread) (m : Mode) (after : Unread) (moment : Moment) → keyword_at (codes "verify") 32 (from_start bytes) ≡ Ok (tt, first) → mode_at 32 first ≡ Ok (m, second) → ReadsTime 10 second after moment
+    → verify_first_fault bytes ≡ None → (v : Verification) × IsVerification bytes v
+whole bytes first second m after moment one two three none =
+    let p = passed bytes none in
+    let h = head bytes p.0 first second m p.1 one two in
+    let time : three.text ≡ p.0.0.1.1.0 = ap (λ (z : List ℕ × Unread). z.0) (ok_is {A = List ℕ × Unread} {F = ShapeFault} _ _ (sym three.is ∙ h.time)) in
+    let says = subst (λ (t : List ℕ). Text t moment) time three.says in
+    let v : Verification = record { mode = p.0.0.1.0; moment = moment; policy = p.0.0.1.1.1.0; evidence = p.0.0.1.1.1.1.0; documents = p.0.0.1.1.1.1.1.0 ∷ p.0.0.1.1.1.1.1.1 } in
+    (v, is_verification bytes v p.0.0 p.0.1 p.1 refl says refl refl refl)

@@ -1,5 +1,5 @@
 -- Words, separators and times: what is read is what stands there, and what is spelled is read.
-use Rattle.std.proofs.Common.{◌≡◌, ℕ, ◌+◌, ◌<◌, ◌==◌, Bool, true, false, ◌||◌, nat_lt, List, [], ◌∷◌, ◌++◌, length, take, drop, Option, Some, None, Result, Ok, Err, refl, sym, ap, subst, ◌∙◌, arith}
+use Rattle.std.proofs.Common.{◌≡◌, ℕ, ◌+◌, ◌<◌, ◌==◌, true, false, nat_lt, List, [], ◌∷◌, ◌++◌, length, Option, Some, None, Ok, refl, sym, ap, subst, ◌∙◌, arith}
 use Rattle.std.specs.Prelude.{codes}
 use Rattle.std.specs.List.{list_all}
 use Rattle.std.specs.Str.{bytes_eq}
@@ -12,11 +12,10 @@ use Rattle.civil_moment.specs.declared.fault.TimeFault.{TimeFault}
 use Rattle.civil_moment.specs.Moment.{Text, digits_text, fraction_text}
 use Rattle.civil_moment.specs.Fault.{first_fault}
 use Rattle.civil_moment.proofs.FirstFault.{no_fault}
-use Rattle.der_values.specs.Steps.{◌>>=◌}
 use Rattle.der_values.specs.Next.{is_empty}
 use Rattle.der_values.proofs.Values.{bind_ok, ok_is, guard_ok, guard_then}
 use Rattle.session_text.specs.declared.shape.ShapeFault.{ShapeFault}
-use Rattle.session_text.specs.Unread.{Unread, Reading}
+use Rattle.session_text.specs.Unread.{Unread}
 use Rattle.session_text.specs.Words.{ends_word, word_length, word_at, separator_on, keyword_at, time_in, time_at}
 use Rattle.session_text.proofs.Passing.{Passes, chosen_ok}
 

@@ -1,5 +1,5 @@
 -- Counted bytes: a word, their number, a line feed, the bytes, a line feed.
-use Rattle.std.specs.Prelude.{◌≡◌, ℕ, ◌+◌, ◌==◌, nat_lt, List, [], ◌∷◌, ◌++◌, length, take, drop, decimal, slice_index, Result, Ok, if◌then◌else◌}
+use Rattle.std.specs.Prelude.{ℕ, ◌+◌, ◌==◌, nat_lt, List, [], ◌∷◌, ◌++◌, length, take, drop, decimal, Ok, if◌then◌else◌}
 use Rattle.der_values.specs.Steps.{◌>>=◌}
 use Rattle.session_text.specs.declared.shape.ShapeKind.TheVariants.{Cut, Mark}
 use Rattle.session_text.specs.Unread.{Unread, Reading, shape_fault}

@@ -22,6 +22,7 @@ use Rattle.algorithm_policy.specs.declared.fault.PolicyKind.TheVariants as polic
 use Rattle.session_text.specs.declared.shape.ShapeKind.{ShapeKind}
 use Rattle.session_text.specs.declared.shape.ShapeKind.TheVariants as shapes
 
+-- the name of a DerKind
 abbrev pub der_kind_name : DerKind → List ℕ
 der_kind_name ders.Truncated = codes "truncated"
 der_kind_name ders.Indefinite = codes "indefinite"
@@ -32,28 +33,34 @@ der_kind_name ders.Trailing = codes "trailing"
 der_kind_name ders.WrongTag = codes "wrongtag"
 der_kind_name ders.BadValue = codes "badvalue"
 
+-- the name of a TimeFault
 abbrev pub time_fault_name : TimeFault → List ℕ
 time_fault_name times.Shape = codes "shape"
 time_fault_name times.Fraction = codes "fraction"
 time_fault_name times.Range = codes "range"
 time_fault_name times.Memory = codes "memory"
 
+-- the name of an AttrKind
 abbrev pub attr_kind_name : AttrKind → List ℕ
 attr_kind_name attributes.ContentType = codes "contenttype"
 attr_kind_name attributes.MessageDigest = codes "messagedigest"
 attr_kind_name attributes.SigningCertificate = codes "signingcertificate"
 
+-- a DerFault: its place and its kind
 abbrev pub der_fault_text : DerFault → List ℕ
 der_fault_text fault = decimal fault.place ++ 32 ∷ der_kind_name fault.kind
 
+-- a TstKind, with its value
 abbrev pub tst_kind_text : TstKind → List ℕ
 tst_kind_text (tsts.Der kind) = codes "der " ++ der_kind_name kind
 tst_kind_text tsts.Version = codes "version"
 tst_kind_text (tsts.Time fault) = codes "time " ++ time_fault_name fault
 
+-- a TstFault: its place and its kind
 abbrev pub tst_fault_text : TstFault → List ℕ
 tst_fault_text fault = decimal fault.place ++ 32 ∷ tst_kind_text fault.kind
 
+-- a CmsFault, with its value
 abbrev pub cms_fault_text : CmsFault → List ℕ
 cms_fault_text (signed.Der fault) = codes "der " ++ der_fault_text fault
 cms_fault_text signed.NotSignedData = codes "notsigneddata"
@@ -67,6 +74,7 @@ cms_fault_text (signed.DoubleAttr kind) = codes "doubleattr " ++ attr_kind_name 
 cms_fault_text (signed.MissingAttr kind) = codes "missingattr " ++ attr_kind_name kind
 cms_fault_text signed.SignatureAlg = codes "signaturealg"
 
+-- a Check, with its value
 abbrev pub check_text : Check → List ℕ
 check_text checks.TooLong = codes "toolong"
 check_text (checks.Cms fault) = codes "cms " ++ cms_fault_text fault
@@ -86,6 +94,7 @@ syntax_kind_name syntax_kinds.ValueLength = codes "valuelength"
 syntax_kind_name syntax_kinds.TooMany = codes "toomany"
 syntax_kind_name syntax_kinds.TooLong = codes "toolong"
 
+-- the name of a PolicyKind
 abbrev pub policy_kind_name : PolicyKind → List ℕ
 policy_kind_name policies.Header = codes "header"
 policy_kind_name policies.Form = codes "form"
@@ -99,6 +108,7 @@ policy_kind_name policies.Order = codes "order"
 policy_kind_name policies.Twice = codes "twice"
 policy_kind_name policies.TooMany = codes "toomany"
 
+-- the name of a ShapeKind
 abbrev pub shape_kind_name : ShapeKind → List ℕ
 shape_kind_name shapes.Word = codes "word"
 shape_kind_name shapes.Number = codes "number"
@@ -111,5 +121,6 @@ shape_kind_name shapes.Mark = codes "mark"
 abbrev pub shape_line : ℕ → ShapeKind → List ℕ
 shape_line place kind = codes "shape " ++ decimal place ++ 32 ∷ shape_kind_name kind ++ 10 ∷ []
 
+-- the line that says why a text is no policy
 abbrev pub policy_line : ℕ → PolicyKind → List ℕ
 policy_line number kind = codes "badpolicy " ++ decimal number ++ 32 ∷ policy_kind_name kind ++ 10 ∷ []

@@ -1,5 +1,7 @@
 -- What private functions say of each other.
-use Rattle.std.specs.Prelude.{◌≡◌, ℕ, List, ◌∷◌, Ok}
+use Rattle.std.specs.Prelude.{◌≡◌, ℕ, ◌+◌, ◌≤◌, List, ◌∷◌, ◌++◌, Result, Ok, IsOk, OnOk, Vec, vec_len, vec_capacity}
+use Rattle.std.specs.declared.alloc.AllocError.{AllocError}
+use Rattle.std.specs.declared.alloc.Global.{Global}
 use Rattle.civil_moment.specs.declared.moment.Moment.{Moment}
 use Rattle.civil_moment.specs.Moment.{Text}
 use Rattle.session_text.specs.declared.verify_input.VerifyInput.{VerifyInput}
@@ -32,9 +34,16 @@ pub record ReadsVerify (bytes : List ℕ) (v : VerifyInput) : Type 0 where
   pub says : Text text v.moment
   pub all : v.documents ≡ first ∷ further
 
--- the words of a verdict, without the line feed behind them
-pub record AreVerdictWords (words : List ℕ) (verdict : Verdict) : Type 0 where
+-- the words of a verdict were added, without the line feed behind them
+pub record HasVerdictWords (before after : List ℕ) (verdict : Verdict) : Type 0 where
   pub first : List ℕ
   pub second : List ℕ
   pub say : SaysMoments verdict first second
-  pub are : words ≡ verdict_words verdict first second
+  pub added : after ≡ before ++ verdict_words verdict first second
+
+-- the words of a verdict were added; where there was room for 120 bytes, they were not refused
+pub record AddsVerdictWords (verdict : Verdict) (old new : Vec ℕ Global) (result : Result (Unit {0}) AllocError) : Type 0 where
+  pub ok : OnOk result (HasVerdictWords old.items new.items verdict)
+  pub short : OnOk result (vec_len new ≤ vec_len old + 120)
+  pub capacity : vec_capacity old ≤ vec_capacity new
+  pub room : vec_len old + 120 ≤ vec_capacity old → IsOk result

@@ -1,5 +1,5 @@
 -- What is left of an input to read, and a reading of it from the left.
-use Rattle.std.specs.Prelude.{ℕ, ◌+◌, Bool, true, false, List, Result, Ok, Err}
+use Rattle.std.specs.Prelude.{ℕ, Bool, true, false, List, Result, Ok, Err}
 use Rattle.der_values.specs.Steps.{◌>>=◌}
 use Rattle.session_text.specs.declared.shape.ShapeFault.{ShapeFault}
 use Rattle.session_text.specs.declared.shape.ShapeFault.TheVariants.{At, Memory}
@@ -14,6 +14,7 @@ pub record Unread : Type 0 where
 abbrev pub Reading : Type 0 → Type 0
 Reading A = Result (A × Unread) ShapeFault
 
+-- a fault of this kind at this place
 abbrev pub shape_fault : {A : Type 0} → ℕ → ShapeKind → Result A ShapeFault
 shape_fault place kind = Err (At place kind)
 

@@ -11,10 +11,12 @@ use Rattle.session_text.specs.FaultTexts.{check_text, syntax_kind_name}
 abbrev pub numbered : List ℕ → List ℕ → List ℕ
 numbered name numbers = name ++ flat_map (λ n. 32 ∷ decimal n) numbers
 
+-- the name of a cause
 abbrev pub cause_name : Cause → List ℕ
 cause_name Key = codes "key"
 cause_name Hash = codes "hash"
 
+-- the verdict that a value isn't covered: its chain, its time-stamp, and its document or a hyphen
 abbrev pub uncovered_text : ℕ → ℕ → Option ℕ → List ℕ
 uncovered_text chain stamp None = numbered (codes "uncovered") (chain ∷ stamp ∷ []) ++ codes " -"
 uncovered_text chain stamp (Some document) = numbered (codes "uncovered") (chain ∷ stamp ∷ document ∷ [])

@@ -4,13 +4,16 @@
 --     policy N              and N bytes, at most 262,144
 --     record N              and N bytes, at most 16,777,216
 --     doc N                 and N bytes, at most 1,048,576; 1 to 64 times
-use Rattle.std.specs.Prelude.{◌≡◌, ℕ, zero, suc, ◌+◌, ◌≤◌, List, [], ◌∷◌, ◌++◌, length, flat_map, codes, Option, Some, None, Result, Ok, Err, if◌then◌else◌}
+use Rattle.std.specs.Prelude.{◌≡◌, ℕ, zero, suc, ◌≤◌, List, [], ◌∷◌, ◌++◌, length, flat_map, codes, Option, Some, None, Result, Ok, Err, if◌then◌else◌}
 use Rattle.std.specs.List.{AllByRecursion}
 use Rattle.std.specs.Str.{bytes_eq}
 use Rattle.civil_moment.specs.declared.moment.Moment.{Moment}
+use Rattle.algorithm_policy.specs.Text.{longest_policy}
 use Rattle.civil_moment.specs.Moment.{Text}
 use Rattle.der_values.specs.Steps.{◌>>=◌}
 use Rattle.der_values.specs.Next.{is_empty}
+use Rattle.object_groups.specs.Groups.{most_documents, longest_document}
+use Rattle.evidence_syntax.specs.Record.{longest_record}
 use Rattle.evidence_verify.specs.declared.verdict.Mode.{Mode}
 use Rattle.evidence_verify.specs.declared.verdict.Mode.TheVariants.{Member, Whole}
 use Rattle.session_text.specs.declared.shape.ShapeFault.{ShapeFault}
@@ -20,16 +23,6 @@ use Rattle.session_text.specs.declared.verify_input.VerifyInput.{VerifyInput}
 use Rattle.session_text.specs.Unread.{Unread, Reading, shape_fault, followed}
 use Rattle.session_text.specs.Words.{word_at, separator_at, keyword_at, time_at}
 use Rattle.session_text.specs.Counted.{counted_at, counted_text}
-
--- the most bytes of a policy, of a record and of a document, and the most documents
-abbrev pub longest_policy : ℕ
-longest_policy = 262_144
-
-abbrev pub longest_evidence : ℕ
-longest_evidence = 16_777_216
-
-abbrev pub longest_document : ℕ
-longest_document = 1_048_576
 
 -- ---- the parts, and their one spelling
 
@@ -59,9 +52,9 @@ pub record IsVerification (bytes : List ℕ) (v : Verification) : Type 0 where
   pub says : Text time v.moment
   pub spelled : bytes ≡ verification_text v time
   pub policy : length v.policy ≤ longest_policy
-  pub evidence : length v.evidence ≤ longest_evidence
+  pub evidence : length v.evidence ≤ longest_record
   pub some : 1 ≤ length v.documents
-  pub few : length v.documents ≤ 64
+  pub few : length v.documents ≤ most_documents
   pub each : AllByRecursion (λ d. length d ≤ longest_document) v.documents
 
 -- ---- its reading from the left
@@ -96,21 +89,25 @@ documents_at (suc most) unread =
 abbrev pub all_documents_at : Unread → Reading (List ℕ × List (List ℕ))
 all_documents_at = followed document_at (documents_at 63)
 
+-- what a reading gives: the mode, the moment, the policy, the record, the documents
 abbrev pub VerifyParts : Type 0
 VerifyParts = Unit {0} × (Mode × (List ℕ × (List ℕ × (List ℕ × (List ℕ × List (List ℕ))))))
 
+-- the input of a verification from here on
 abbrev pub verify_at : Unread → Reading VerifyParts
 verify_at =
     followed (keyword_at (codes "verify") 32) (
     followed (mode_at 32) (
     followed (time_at 10) (
     followed (counted_at (codes "policy") longest_policy) (
-    followed (counted_at (codes "record") longest_evidence)
+    followed (counted_at (codes "record") longest_record)
     all_documents_at))))
 
+-- all of the bytes, from place 0
 abbrev pub from_start : List ℕ → Unread
 from_start bytes = record { place = 0; bytes = bytes }
 
+-- the fault of a reading, or none
 abbrev pub fault_of : {A : Type 0} → Reading A → Option ShapeFault
 fault_of (Ok x) = None
 fault_of (Err e) = Some e
@@ -121,5 +118,6 @@ verify_first_fault bytes = fault_of (verify_at (from_start bytes))
 
 -- ---- what is seen of it in memory
 
+-- what a VerifyInput says
 abbrev pub verification_seen : VerifyInput → Verification
 verification_seen v = record { mode = v.mode; moment = v.moment; policy = v.policy.now; evidence = v.evidence.now; documents = v.documents }

@@ -1,5 +1,5 @@
 -- The words of an input: each ends at a space, at a line feed or at the end, and is judged before what stands behind it.
-use Rattle.std.specs.Prelude.{ℕ, ◌+◌, ◌-◌, ◌*◌, Bool, true, false, not, ◌&&◌, ◌||◌, ◌==◌, nat_le, nat_lt, List, [], ◌∷◌, length, take, drop, Option, Some, None, Result, Ok, codes, if◌then◌else◌}
+use Rattle.std.specs.Prelude.{ℕ, ◌+◌, ◌-◌, ◌*◌, Bool, false, not, ◌&&◌, ◌||◌, ◌==◌, nat_le, nat_lt, List, [], ◌∷◌, length, take, drop, Option, Some, None, Result, Ok, if◌then◌else◌}
 use Rattle.std.specs.List.{list_all, position_or_len}
 use Rattle.std.specs.Char.{is_ascii_digit}
 use Rattle.std.specs.Str.{bytes_eq}
@@ -30,6 +30,7 @@ unfoldable pub separator_on : ℕ → ℕ → List ℕ → Reading (Unit {0})
 separator_on separator place [] = shape_fault place Cut
 separator_on separator place (byte ∷ bytes) = if byte == separator then Ok (tt, record { place = place + 1; bytes = bytes }) else shape_fault place Word
 
+-- this space or line feed stands next
 abbrev pub separator_at : ℕ → Unread → Reading (Unit {0})
 separator_at separator unread = separator_on separator unread.place unread.bytes
 
@@ -40,6 +41,7 @@ keyword_at name separator unread =
 
 -- ---- numbers
 
+-- more than one digit, and the first is 0
 abbrev pub leads_with_zero : List ℕ → Bool
 leads_with_zero [] = false
 leads_with_zero (digit ∷ []) = false
@@ -54,6 +56,7 @@ abbrev pub number_on : ℕ → List ℕ → ℕ
 number_on number [] = number
 number_on number (digit ∷ rest) = number_on (number * 10 + (digit - 48)) rest
 
+-- the number that digits say
 abbrev pub number_of : List ℕ → ℕ
 number_of word = number_on 0 word
 
@@ -64,12 +67,14 @@ number_in place most word =
     else if nat_lt most (number_of word) then shape_fault place Limit
     else Ok (number_of word)
 
+-- a word that is a number of at most this one, and its separator
 unfoldable pub number_at : ℕ → ℕ → Unread → Reading ℕ
 number_at most separator unread =
     word_at unread >>= λ w. number_in unread.place most w.0 >>= λ n. separator_at separator w.1 >>= λ u. Ok (n, u.1)
 
 -- ---- moments
 
+-- a word as a time, by its fault
 unfoldable pub time_in : ℕ → List ℕ → Option TimeFault → Result (List ℕ) ShapeFault
 time_in place word None = Ok word
 time_in place word (Some fault) = shape_fault place Moment

@@ -1,20 +1,22 @@
 // The texts of faults.
-ghost use Rattle.std.specs.Prelude.{◌≡◌, ◌∷◌, [], ◌++◌, codes, decimal, OnOk, OnErr, IfOk};
+ghost use Rattle.std.specs.Prelude.{◌≡◌, ◌+◌, ◌≤◌, ◌∷◌, [], ◌++◌, length, decimal, OnOk, OnErr};
 ghost use Rattle.session_text.specs.FaultTexts.{der_kind_name, time_fault_name, attr_kind_name, der_fault_text, tst_kind_text, tst_fault_text, cms_fault_text, check_text, syntax_kind_name, policy_kind_name, shape_kind_name, shape_line, policy_line};
+ghost use Rattle.session_text.specs.Lines.{Adds};
 
+use crate::line::{LONGEST_LINE, add_number, add_words, end_line};
 use crate::shape::ShapeKind;
 use algorithm_policy::PolicyKind;
 use civil_moment::TimeFault;
 use cms_signed::{AttrKind, CmsFault};
 use der_values::{DerFault, DerKind};
 use evidence_syntax::SyntaxKind;
-use itoa::Buffer;
-use std::alloc::{AllocError, Global};
+use std::alloc::AllocError;
 use token_check::Check;
 use tst_info::{TstFault, TstKind};
 
 fn der_kind_name(kind: DerKind) -> &'static [u8]
-    ensures { result.now ≡ der_kind_name kind }
+    ensures name { result.now ≡ der_kind_name kind }
+    ensures most { length result.now ≤ 20 }
 {
     match kind {
         DerKind::Truncated => b"truncated",
@@ -29,7 +31,8 @@ fn der_kind_name(kind: DerKind) -> &'static [u8]
 }
 
 fn time_fault_name(fault: TimeFault) -> &'static [u8]
-    ensures { result.now ≡ time_fault_name fault }
+    ensures name { result.now ≡ time_fault_name fault }
+    ensures most { length result.now ≤ 20 }
 {
     match fault {
         TimeFault::Shape => b"shape",
@@ -40,7 +43,8 @@ fn time_fault_name(fault: TimeFault) -> &'static [u8]
 }
 
 fn attr_kind_name(kind: AttrKind) -> &'static [u8]
-    ensures { result.now ≡ attr_kind_name kind }
+    ensures name { result.now ≡ attr_kind_name kind }
+    ensures most { length result.now ≤ 20 }
 {
     match kind {
         AttrKind::ContentType => b"contenttype",
@@ -50,7 +54,8 @@ fn attr_kind_name(kind: AttrKind) -> &'static [u8]
 }
 
 pub(crate) fn syntax_kind_name(kind: SyntaxKind) -> &'static [u8]
-    ensures { result.now ≡ syntax_kind_name kind }
+    ensures name { result.now ≡ syntax_kind_name kind }
+    ensures most { length result.now ≤ 20 }
 {
     match kind {
         SyntaxKind::Der(kind) => der_kind_name(kind),
@@ -63,7 +68,8 @@ pub(crate) fn syntax_kind_name(kind: SyntaxKind) -> &'static [u8]
 }
 
 fn policy_kind_name(kind: PolicyKind) -> &'static [u8]
-    ensures { result.now ≡ policy_kind_name kind }
+    ensures name { result.now ≡ policy_kind_name kind }
+    ensures most { length result.now ≤ 20 }
 {
     match kind {
         PolicyKind::Header => b"header",
@@ -81,7 +87,8 @@ fn policy_kind_name(kind: PolicyKind) -> &'static [u8]
 }
 
 fn shape_kind_name(kind: ShapeKind) -> &'static [u8]
-    ensures { result.now ≡ shape_kind_name kind }
+    ensures name { result.now ≡ shape_kind_name kind }
+    ensures most { length result.now ≤ 20 }
 {
     match kind {
         ShapeKind::Word => b"word",
@@ -93,109 +100,106 @@ fn shape_kind_name(kind: ShapeKind) -> &'static [u8]
     }
 }
 
-pub(crate) fn push_number(out: &mut Vec<u8>, number: u64) -> Result<(), AllocError>
-    ensures { OnOk result (out.new.items ≡ out.old.items ++ decimal number) }
-{
-    let mut spelling = Buffer::new();
-    out.extend_from_slice(spelling.format(number).as_bytes())
-}
-
 // A name, and one behind it.
-fn push_both(out: &mut Vec<u8>, name: &[u8], other: &[u8]) -> Result<(), AllocError>
-    ensures { OnOk result (out.new.items ≡ out.old.items ++ (name.now ++ other.now)) }
+fn add_both(out: &mut Vec<u8>, name: &[u8], other: &[u8]) -> Result<(), AllocError>
+    ensures { Adds (name.now ++ other.now) (length name.now + length other.now) out.old out.new result }
 {
-    out.extend_from_slice(name)?;
-    out.extend_from_slice(other)
+    add_words(out, name)?;
+    add_words(out, other)
 }
 
 // A place, and what stands there.
-fn push_at(out: &mut Vec<u8>, place: u64, name: &[u8]) -> Result<(), AllocError>
-    ensures { OnOk result (out.new.items ≡ out.old.items ++ (decimal place ++ 32 ∷ name.now)) }
+fn add_at(out: &mut Vec<u8>, place: u64, name: &[u8]) -> Result<(), AllocError>
+    requires { length name.now ≤ 20 }
+    ensures { Adds (decimal place ++ 32 ∷ name.now) 41 out.old out.new result }
 {
-    push_number(out, place)?;
-    out.push(b' ')?;
-    out.extend_from_slice(name)
+    add_number(out, place)?;
+    add_words(out, b" ")?;
+    add_words(out, name)
 }
 
-fn push_der_fault(out: &mut Vec<u8>, fault: &DerFault) -> Result<(), AllocError>
-    ensures { OnOk result (out.new.items ≡ out.old.items ++ der_fault_text fault.now) }
+fn add_der_fault(out: &mut Vec<u8>, fault: &DerFault) -> Result<(), AllocError>
+    ensures { Adds (der_fault_text fault.now) 41 out.old out.new result }
 {
-    push_at(out, fault.place, der_kind_name(fault.kind))
+    add_at(out, fault.place, der_kind_name(fault.kind))
 }
 
-fn push_tst_kind(out: &mut Vec<u8>, kind: TstKind) -> Result<(), AllocError>
-    ensures { OnOk result (out.new.items ≡ out.old.items ++ tst_kind_text kind) }
+fn add_tst_kind(out: &mut Vec<u8>, kind: TstKind) -> Result<(), AllocError>
+    ensures { Adds (tst_kind_text kind) 25 out.old out.new result }
 {
     match kind {
-        TstKind::Der(kind) => push_both(out, b"der ", der_kind_name(kind)),
-        TstKind::Version => out.extend_from_slice(b"version"),
-        TstKind::Time(fault) => push_both(out, b"time ", time_fault_name(fault)),
+        TstKind::Der(kind) => add_both(out, b"der ", der_kind_name(kind)),
+        TstKind::Version => add_words(out, b"version"),
+        TstKind::Time(fault) => add_both(out, b"time ", time_fault_name(fault)),
     }
 }
 
-fn push_tst_fault(out: &mut Vec<u8>, fault: &TstFault) -> Result<(), AllocError>
-    ensures { OnOk result (out.new.items ≡ out.old.items ++ tst_fault_text fault.now) }
+fn add_tst_fault(out: &mut Vec<u8>, fault: &TstFault) -> Result<(), AllocError>
+    ensures { Adds (tst_fault_text fault.now) 46 out.old out.new result }
 {
-    push_number(out, fault.place)?;
-    out.push(b' ')?;
-    push_tst_kind(out, fault.kind)
+    add_number(out, fault.place)?;
+    add_words(out, b" ")?;
+    add_tst_kind(out, fault.kind)
 }
 
-fn push_cms_fault(out: &mut Vec<u8>, fault: &CmsFault) -> Result<(), AllocError>
-    ensures { OnOk result (out.new.items ≡ out.old.items ++ cms_fault_text fault.now) }
+fn add_cms_fault(out: &mut Vec<u8>, fault: &CmsFault) -> Result<(), AllocError>
+    ensures { Adds (cms_fault_text fault.now) 45 out.old out.new result }
 {
     match fault {
         CmsFault::Der(fault) => {
-            out.extend_from_slice(b"der ")?;
-            push_der_fault(out, fault)
+            add_words(out, b"der ")?;
+            add_der_fault(out, fault)
         }
-        CmsFault::NotSignedData => out.extend_from_slice(b"notsigneddata"),
-        CmsFault::Version => out.extend_from_slice(b"version"),
-        CmsFault::ContentType => out.extend_from_slice(b"contenttype"),
+        CmsFault::NotSignedData => add_words(out, b"notsigneddata"),
+        CmsFault::Version => add_words(out, b"version"),
+        CmsFault::ContentType => add_words(out, b"contenttype"),
         CmsFault::Signers(count) => {
-            out.extend_from_slice(b"signers ")?;
-            push_number(out, u64::from(*count))
+            add_words(out, b"signers ")?;
+            add_number(out, u64::from(*count))
         }
-        CmsFault::SignerVersion => out.extend_from_slice(b"signerversion"),
-        CmsFault::DigestAlg => out.extend_from_slice(b"digestalg"),
-        CmsFault::AttrOrder => out.extend_from_slice(b"attrorder"),
-        CmsFault::DoubleAttr(kind) => push_both(out, b"doubleattr ", attr_kind_name(*kind)),
-        CmsFault::MissingAttr(kind) => push_both(out, b"missingattr ", attr_kind_name(*kind)),
-        CmsFault::SignatureAlg => out.extend_from_slice(b"signaturealg"),
+        CmsFault::SignerVersion => add_words(out, b"signerversion"),
+        CmsFault::DigestAlg => add_words(out, b"digestalg"),
+        CmsFault::AttrOrder => add_words(out, b"attrorder"),
+        CmsFault::DoubleAttr(kind) => add_both(out, b"doubleattr ", attr_kind_name(*kind)),
+        CmsFault::MissingAttr(kind) => add_both(out, b"missingattr ", attr_kind_name(*kind)),
+        CmsFault::SignatureAlg => add_words(out, b"signaturealg"),
     }
 }
 
 /// Adds the text of a check that failed.
-pub(crate) fn push_check(out: &mut Vec<u8>, check: &Check) -> Result<(), AllocError>
-    ensures { OnOk result (out.new.items ≡ out.old.items ++ check_text check.now) }
+pub(crate) fn add_check(out: &mut Vec<u8>, check: &Check) -> Result<(), AllocError>
+    ensures { Adds (check_text check.now) 50 out.old out.new result }
 {
     match check {
-        Check::TooLong => out.extend_from_slice(b"toolong"),
+        Check::TooLong => add_words(out, b"toolong"),
         Check::Cms(fault) => {
-            out.extend_from_slice(b"cms ")?;
-            push_cms_fault(out, fault)
+            add_words(out, b"cms ")?;
+            add_cms_fault(out, fault)
         }
         Check::Tst(fault) => {
-            out.extend_from_slice(b"tst ")?;
-            push_tst_fault(out, fault)
+            add_words(out, b"tst ")?;
+            add_tst_fault(out, fault)
         }
-        Check::HashUnknown => out.extend_from_slice(b"hashunknown"),
-        Check::UnknownSigner => out.extend_from_slice(b"unknownsigner"),
-        Check::CertHash => out.extend_from_slice(b"certhash"),
-        Check::MessageDigest => out.extend_from_slice(b"messagedigest"),
-        Check::BadSignature => out.extend_from_slice(b"badsignature"),
+        Check::HashUnknown => add_words(out, b"hashunknown"),
+        Check::UnknownSigner => add_words(out, b"unknownsigner"),
+        Check::CertHash => add_words(out, b"certhash"),
+        Check::MessageDigest => add_words(out, b"messagedigest"),
+        Check::BadSignature => add_words(out, b"badsignature"),
     }
 }
 
-// A line: a name, a number and a name.
-fn fault_line(alloc: Global, name: &[u8], number: u64, kind: &[u8]) -> Result<Vec<u8>, AllocError>
-    ensures { IfOk result (λ line. line.items ≡ name.now ++ decimal number ++ 32 ∷ kind.now ++ 10 ∷ []) }
+// A line: a name, a number and a name. The room is taken first: what follows can't be refused.
+fn write_fault(out: &mut Vec<u8>, name: &[u8], number: u64, kind: &[u8]) -> Result<(), AllocError>
+    requires name { length name.now ≤ 20 }
+    requires kind { length kind.now ≤ 20 }
+    ensures ok { OnOk result
+        (out.new.items ≡ out.old.items ++ (name.now ++ decimal number ++ 32 ∷ kind.now ++ 10 ∷ [])) }
+    ensures err { OnErr result (out.new.items ≡ out.old.items) }
 {
-    let mut line = Vec::new(alloc);
-    line.extend_from_slice(name)?;
-    push_at(&mut line, number, kind)?;
-    line.push(b'\n')?;
-    Ok(line)
+    out.reserve(LONGEST_LINE)?;
+    add_words(out, name)?;
+    add_at(out, number, kind)?;
+    end_line(out)
 }
 
 /// Adds the line that says why an input is not of its form. An Err leaves the text as it was.
@@ -203,8 +207,7 @@ pub fn write_shape_fault(out: &mut Vec<u8>, place: u64, kind: ShapeKind) -> Resu
     ensures ok { OnOk result (out.new.items ≡ out.old.items ++ shape_line place kind) }
     ensures err { OnErr result (out.new.items ≡ out.old.items) }
 {
-    let line = fault_line(*out.allocator(), b"shape ", place, shape_kind_name(kind))?;
-    out.extend_from_slice(line.as_slice())
+    write_fault(out, b"shape ", place, shape_kind_name(kind))
 }
 
 /// Adds the line that says why a text is no policy. An Err leaves the text as it was.
@@ -216,7 +219,10 @@ pub fn write_policy_fault(
     ensures ok { OnOk result (out.new.items ≡ out.old.items ++ policy_line number kind) }
     ensures err { OnErr result (out.new.items ≡ out.old.items) }
 {
-    let kind = policy_kind_name(kind);
-    let line = fault_line(*out.allocator(), b"badpolicy ", u64::from(number), kind)?;
-    out.extend_from_slice(line.as_slice())
+    write_fault(
+        out,
+        b"badpolicy ",
+        u64::from(number),
+        policy_kind_name(kind),
+    )
 }

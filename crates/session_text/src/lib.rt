@@ -4,12 +4,16 @@
 
 mod fault_text;
 pub mod laws;
+mod line;
 mod shape;
 mod text;
 mod verdict_text;
 mod verify_input;
 
 pub use fault_text::{write_policy_fault, write_shape_fault};
+pub use line::{
+    LONGEST_LINE, add_counted, add_hash, add_moment, add_number, add_numbers, add_words, end_line,
+};
 pub use shape::{ShapeFault, ShapeKind};
 pub use verdict_text::write_verdict;
 pub use verify_input::{VerifyInput, read_verify};

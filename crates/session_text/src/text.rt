@@ -1,5 +1,5 @@
 // The text of an input, read word by word from the left.
-ghost use Rattle.std.specs.Prelude.{◌≡◌, ◌+◌, ◌≤◌, ◌^◌, ◌<◌, Bool, length, take, drop, position, IfOk, IfErr, IfSome, IfNone, OnOk, Ok, Err, Some, None, IsTrue, if◌then◌else◌};
+ghost use Rattle.std.specs.Prelude.{◌≡◌, ◌+◌, ◌≤◌, ◌^◌, ◌<◌, length, take, drop, position, IfOk, IfErr, OnOk, Ok, Err, Some, None, IsTrue};
 ghost use Rattle.std.specs.List.{list_all};
 ghost use Rattle.std.specs.Char.{is_ascii_digit};
 ghost use Rattle.civil_moment.specs.Moment.{Text as Says};

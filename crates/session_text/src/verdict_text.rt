@@ -1,126 +1,115 @@
 // The line of a verdict.
-ghost use Rattle.std.specs.Prelude.{◌≡◌, [], ◌∷◌, ◌++◌, IfOk, OnOk, OnErr};
+ghost use Rattle.std.specs.Prelude.{◌≡◌, ◌≤◌, [], ◌∷◌, length, OnOk, OnErr};
 ghost use Rattle.evidence_verify.specs.declared.verdict.Verdict.TheVariants.{Early, Lapsed};
-ghost use Rattle.session_text.specs.Verdicts.{numbered, cause_name, uncovered_text, IsVerdictLine, AddsVerdict};
-ghost use Rattle.session_text.specs.Inside.{AreVerdictWords};
+ghost use Rattle.session_text.specs.Verdicts.{numbered, cause_name, uncovered_text, AddsVerdict};
+ghost use Rattle.session_text.specs.Lines.{Adds};
+ghost use Rattle.session_text.specs.Inside.{AddsVerdictWords};
 
-use crate::fault_text::{push_check, push_number, syntax_kind_name};
-use civil_moment::{Moment, write_generalized};
+use crate::fault_text::{add_check, syntax_kind_name};
+use crate::line::{LONGEST_LINE, add_moment, add_number, add_numbers, add_words, end_line};
+use civil_moment::Moment;
 use evidence_verify::{Cause, Lapse, Verdict};
-use std::alloc::{AllocError, Global};
+use std::alloc::AllocError;
 
 /// Adds the line of a verdict to a text. An Err leaves the text as it was.
 pub fn write_verdict(out: &mut Vec<u8>, verdict: &Verdict) -> Result<(), AllocError>
     ensures ok { OnOk result (AddsVerdict out.old.items out.new.items verdict.now) }
     ensures err { OnErr result (out.new.items ≡ out.old.items) }
 {
-    let line = verdict_line(*out.allocator(), verdict)?;
-    out.extend_from_slice(line.as_slice())
+    // The room is taken first: what follows can't be refused.
+    out.reserve(LONGEST_LINE)?;
+    add_verdict(out, verdict)?;
+    end_line(out)
 }
 
-fn verdict_line(alloc: Global, verdict: &Verdict) -> Result<Vec<u8>, AllocError>
-    ensures { IfOk result (λ line. IsVerdictLine line.items verdict.now) }
-{
-    let mut line = verdict_words(alloc, verdict)?;
-    line.push(b'\n')?;
-    Ok(line)
-}
-
-fn verdict_words(alloc: Global, verdict: &Verdict) -> Result<Vec<u8>, AllocError>
-    ensures { IfOk result (λ words. AreVerdictWords words.items verdict.now) }
+fn add_verdict(out: &mut Vec<u8>, verdict: &Verdict) -> Result<(), AllocError>
+    ensures { AddsVerdictWords verdict.now out.old out.new result }
 {
     match verdict {
-        Verdict::Valid => numbered(alloc, b"valid", &[]),
+        Verdict::Valid => add_words(out, b"valid"),
         Verdict::Syntax { place, kind } => {
-            let mut words = numbered(alloc, b"syntax", &[*place])?;
-            words.push(b' ')?;
-            words.extend_from_slice(syntax_kind_name(*kind))?;
-            Ok(words)
+            add_numbered(out, b"syntax", &[*place])?;
+            add_words(out, b" ")?;
+            add_words(out, syntax_kind_name(*kind))
         }
         Verdict::BadStamp {
             chain,
             stamp,
             check,
         } => {
-            let mut words = of_stamp(alloc, b"stamp", *chain, *stamp)?;
-            words.push(b' ')?;
-            push_check(&mut words, check)?;
-            Ok(words)
+            add_of_stamp(out, b"stamp", *chain, *stamp)?;
+            add_words(out, b" ")?;
+            add_check(out, check)
         }
-        Verdict::MixedHash { chain, stamp } => of_stamp(alloc, b"hash", *chain, *stamp),
-        Verdict::OutOfOrder { chain, stamp } => of_stamp(alloc, b"order", *chain, *stamp),
+        Verdict::MixedHash { chain, stamp } => add_of_stamp(out, b"hash", *chain, *stamp),
+        Verdict::OutOfOrder { chain, stamp } => add_of_stamp(out, b"order", *chain, *stamp),
         Verdict::NotCovered {
             chain,
             stamp,
             document,
-        } => uncovered(alloc, *chain, *stamp, *document),
-        Verdict::NotWhole { chain } => numbered(alloc, b"notwhole", &[u64::from(*chain)]),
-        Verdict::Early { moment, last } => early(alloc, moment, last),
-        Verdict::Lapsed(lapse) => lapsed(alloc, lapse),
+        } => add_uncovered(out, *chain, *stamp, *document),
+        Verdict::NotWhole { chain } => add_numbered(out, b"notwhole", &[u64::from(*chain)]),
+        Verdict::Early { moment, last } => add_early(out, moment, last),
+        Verdict::Lapsed(lapse) => add_lapsed(out, lapse),
     }
 }
 
 // A name, and numbers behind it.
-fn numbered(alloc: Global, name: &[u8], numbers: &[u64]) -> Result<Vec<u8>, AllocError>
-    ensures { IfOk result (λ words. words.items ≡ numbered name.now numbers.now) }
+fn add_numbered(out: &mut Vec<u8>, name: &[u8], numbers: &[u64]) -> Result<(), AllocError>
+    requires name { length name.now ≤ 20 }
+    requires numbers { length numbers.now ≤ 2 }
+    ensures { Adds (numbered name.now numbers.now) 62 out.old out.new result }
 {
-    let mut words = Vec::new(alloc);
-    words.extend_from_slice(name)?;
-    for number in numbers {
-        words.push(b' ')?;
-        push_number(&mut words, *number)?;
-    }
-    Ok(words)
+    add_words(out, name)?;
+    add_numbers(out, numbers)
 }
 
 // A name, and where a time-stamp stands.
-fn of_stamp(alloc: Global, name: &[u8], chain: u32, stamp: u32) -> Result<Vec<u8>, AllocError>
-    ensures { IfOk result (λ words. words.items ≡ numbered name.now (chain ∷ stamp ∷ [])) }
+fn add_of_stamp(out: &mut Vec<u8>, name: &[u8], chain: u32, stamp: u32) -> Result<(), AllocError>
+    requires { length name.now ≤ 20 }
+    ensures { Adds (numbered name.now (chain ∷ stamp ∷ [])) 62 out.old out.new result }
 {
-    numbered(alloc, name, &[u64::from(chain), u64::from(stamp)])
+    add_numbered(out, name, &[u64::from(chain), u64::from(stamp)])
 }
 
-fn uncovered(
-    alloc: Global,
+fn add_uncovered(
+    out: &mut Vec<u8>,
     chain: u32,
     stamp: u32,
     document: Option<u32>,
-) -> Result<Vec<u8>, AllocError>
-    ensures { IfOk result (λ words. words.items ≡ uncovered_text chain stamp document) }
+) -> Result<(), AllocError>
+    ensures { Adds (uncovered_text chain stamp document) 83 out.old out.new result }
 {
-    let mut words = of_stamp(alloc, b"uncovered", chain, stamp)?;
-    words.push(b' ')?;
+    add_of_stamp(out, b"uncovered", chain, stamp)?;
+    add_words(out, b" ")?;
     match document {
-        Some(document) => push_number(&mut words, u64::from(document))?,
-        None => words.push(b'-')?,
+        Some(document) => add_number(out, u64::from(document)),
+        None => add_words(out, b"-"),
     }
-    Ok(words)
 }
 
-fn early(alloc: Global, moment: &Moment, last: &Moment) -> Result<Vec<u8>, AllocError>
-    ensures { IfOk result (λ words. AreVerdictWords words.items (Early moment.now last.now)) }
+fn add_early(out: &mut Vec<u8>, moment: &Moment, last: &Moment) -> Result<(), AllocError>
+    ensures { AddsVerdictWords (Early moment.now last.now) out.old out.new result }
 {
-    let mut words = Vec::new(alloc);
-    words.extend_from_slice(b"early ")?;
-    words.extend_from_slice(write_generalized(alloc, moment)?.as_slice())?;
-    words.push(b' ')?;
-    words.extend_from_slice(write_generalized(alloc, last)?.as_slice())?;
-    Ok(words)
+    add_words(out, b"early ")?;
+    add_moment(out, moment)?;
+    add_words(out, b" ")?;
+    add_moment(out, last)
 }
 
-fn lapsed(alloc: Global, lapse: &Lapse) -> Result<Vec<u8>, AllocError>
-    ensures { IfOk result (λ words. AreVerdictWords words.items (Lapsed lapse.now)) }
+fn add_lapsed(out: &mut Vec<u8>, lapse: &Lapse) -> Result<(), AllocError>
+    ensures { AddsVerdictWords (Lapsed lapse.now) out.old out.new result }
 {
-    let mut words = of_stamp(alloc, b"lapsed", lapse.chain, lapse.stamp)?;
-    words.push(b' ')?;
-    words.extend_from_slice(cause_name(lapse.cause))?;
-    words.push(b' ')?;
-    words.extend_from_slice(write_generalized(alloc, &lapse.end)?.as_slice())?;
-    Ok(words)
+    add_of_stamp(out, b"lapsed", lapse.chain, lapse.stamp)?;
+    add_words(out, b" ")?;
+    add_words(out, cause_name(lapse.cause))?;
+    add_words(out, b" ")?;
+    add_moment(out, &lapse.end)
 }
 
 fn cause_name(cause: Cause) -> &'static [u8]
-    ensures { result.now ≡ cause_name cause }
+    ensures name { result.now ≡ cause_name cause }
+    ensures most { length result.now ≤ 4 }
 {
     match cause {
         Cause::Key => b"key",

@@ -1,4 +1,4 @@
-ghost use Rattle.std.specs.Prelude.{◌≡◌, false, Some, IfOk, IfErr, Ok, Err, List, ℕ};
+ghost use Rattle.std.specs.Prelude.{◌≡◌, false, Some, IfOk, IfErr, Ok, Err};
 ghost use Rattle.der_values.specs.Reading.{Unless, AnswersUnless};
 ghost use Rattle.session_text.specs.Unread.{is_memory};
 ghost use Rattle.der_values.specs.Next.{is_empty};
@@ -7,22 +7,13 @@ ghost use Rattle.session_text.specs.Inside.{ReadsVerify, ReadsDocuments};
 
 use crate::shape::{ShapeFault, ShapeKind};
 use crate::text::Text;
+use algorithm_policy::LONGEST_POLICY;
 use civil_moment::Moment;
 use der_values::{Bytes, Items};
+use evidence_syntax::LONGEST_RECORD;
 use evidence_verify::Mode;
+use object_groups::{LONGEST_DOCUMENT, MOST_DOCUMENTS};
 use std::alloc::Global;
-
-/// The most bytes of a policy.
-const LONGEST_POLICY: u64 = 262_144;
-
-/// The most bytes of a record.
-const LONGEST_EVIDENCE: u64 = 16_777_216;
-
-/// The most bytes of a document.
-const LONGEST_DOCUMENT: u64 = 1_048_576;
-
-/// The most documents.
-const MOST_DOCUMENTS: usize = 64;
 
 /// The input of a verification.
 #[derive(Debug, Drop)]
@@ -60,7 +51,7 @@ fn whole_input<'a>(alloc: Global, bytes: &'a [u8]) -> Result<VerifyInput<'a>, Sh
     let mode = mode(&mut text, b' ')?;
     let moment = text.moment(b'\n')?;
     let policy = text.counted(b"policy", LONGEST_POLICY)?;
-    let evidence = text.counted(b"record", LONGEST_EVIDENCE)?;
+    let evidence = text.counted(b"record", LONGEST_RECORD as u64)?;
     let documents = documents(alloc, &mut text)?;
     Ok(VerifyInput {
         mode,
@@ -72,7 +63,7 @@ fn whole_input<'a>(alloc: Global, bytes: &'a [u8]) -> Result<VerifyInput<'a>, Sh
 }
 
 #[tactic(auto, unfolding(crate::specs::VerifyInput::mode_at, crate::specs::VerifyInput::mode_in))]
-fn mode(text: &mut Text<'_>, separator: u8) -> Result<Mode, ShapeFault>
+pub(crate) fn mode(text: &mut Text<'_>, separator: u8) -> Result<Mode, ShapeFault>
     ensures ok { IfOk result (λ m. mode_at separator text.old ≡ Ok (m, text.new)) }
     ensures fault { IfErr result (λ e. mode_at separator text.old ≡ Err e) }
 {
@@ -101,7 +92,7 @@ fn document(alloc: Global, text: &mut Text<'_>) -> Result<Bytes, ShapeFault>
     ensures ok { IfOk result (λ d. document_at text.old ≡ Ok (d, text.new)) }
     ensures fault { IfErr result (λ e. Unless (is_memory e) (document_at text.old ≡ Err e)) }
 {
-    let bytes = text.counted(b"doc", LONGEST_DOCUMENT)?;
+    let bytes = text.counted(b"doc", LONGEST_DOCUMENT as u64)?;
     Ok(Bytes::from_vec(Vec::from_slice(alloc, bytes)?))
 }
 

@@ -1,5 +1,5 @@
-use Rattle.std.proofs.Common.{◌≡◌, ◌<◌, ◌∷◌, [], ◌++◌, List, ℕ, length, sym, ap, subst, ◌∙◌, arith, refl}
-use Rattle.session_text.proofs.DocumentLoop.{start, more, ends, full, refused}
+use Rattle.std.proofs.Common.{◌≡◌, ◌<◌, ◌∷◌, [], ◌++◌, List, ℕ, length, ap, ◌∙◌, arith}
+use Rattle.session_text.proofs.DocumentLoop.{start, more, ends, refused}
 use Rattle.session_text.proofs.verify_input.documents.Goals as goal
 
 pub loop-alloc-init : goal.loop-alloc-init

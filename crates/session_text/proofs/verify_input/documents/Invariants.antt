@@ -1,4 +1,4 @@
-use Rattle.std.proofs.Common.{◌≡◌, ◌-◌, ◌≤◌, length}
+use Rattle.std.proofs.Common.{◌-◌, ◌≤◌, length}
 use Rattle.session_text.proofs.DocumentLoop.{DocumentsSoFar}
 use Rattle.session_text.proofs.verify_input.documents.Given as goal
 

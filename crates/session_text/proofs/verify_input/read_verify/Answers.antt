@@ -1,4 +1,3 @@
-use Rattle.std.proofs.Common.{◌≡◌, refl, sym, ap, ◌∙◌}
 use Rattle.session_text.proofs.ReadLemmas.{found, only}
 use Rattle.session_text.proofs.verify_input.read_verify.Goals as goal
 

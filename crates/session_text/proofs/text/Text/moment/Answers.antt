@@ -1,4 +1,4 @@
-use Rattle.std.proofs.Common.{◌≡◌, Ok, sym, subst}
+use Rattle.std.proofs.Common.{◌≡◌, Ok, subst}
 use Rattle.civil_moment.specs.Fault.{first_fault}
 use Rattle.session_text.specs.Unread.{Unread}
 use Rattle.session_text.specs.Words.{time_in}
