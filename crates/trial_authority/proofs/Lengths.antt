@@ -7,7 +7,7 @@ use Rattle.civil_moment.specs.declared.moment.Moment.{Moment}
 use Rattle.civil_moment.specs.Moment.{Text}
 use Rattle.hash_kit.specs.declared.algorithm.HashAlg.TheVariants.{Sha256}
 use Rattle.hash_kit.proofs.Sizes.{length-digest_of}
-use Rattle.der_values.specs.Value.{value}
+use Rattle.der_values.specs.Value.{value, bytes_or_none}
 use Rattle.der_values.proofs.Values.{value_length}
 use Rattle.lms_sign.specs.declared.secret.HssSecret.{HssSecret}
 use Rattle.lms_sign.specs.Lms.{lms_public, lms_signature}
@@ -15,9 +15,10 @@ use Rattle.lms_sign.specs.Hss.{tree_numbered, tree_at, leaf_at, number_at, signe
 use Rattle.lms_sign.specs.Inside.{IsKey}
 use Rattle.lms_sign.proofs.Trees.{length-lms_public, length-lms_signature}
 use Rattle.lms_sign.proofs.Levels.{known_tree}
-use Rattle.tst_info.specs.Request.{Request}
+use Rattle.tst_info.specs.Request.{ToStamp}
 use Rattle.tst_info.specs.Info.{tst_contents, with_text}
-use Rattle.tst_info.specs.Imprint.{bytes_or_none, name_text, imprint_text}
+use Rattle.tst_info.specs.Imprint.{imprint_text}
+use Rattle.der_values.specs.Algorithm.{name_contents}
 use Rattle.tst_info.specs.Spelling.{nonce_text}
 use Rattle.tst_info.proofs.Small.{sizes, time_length}
 use Rattle.trial_authority.specs.Key.{trial_key, certificate_of, public_of}
@@ -60,15 +61,15 @@ nonce_length : (nonce : Option (List ℕ)) → length (nonce_text nonce) ≤ len
 nonce_length None = omega arith
 nonce_length (Some n) = value_length 2 n
 
-name_short : (oid : List ℕ) → length (name_text (record { oid = oid; params = None })) ≤ length oid + 6
+name_short : (oid : List ℕ) → length (name_contents (record { oid = oid; params = None })) ≤ length oid + 6
 name_short oid = omega (arith, length-append (value 6 oid) [], value_length 6 oid)
 
 imprint_short : (oid imprint : List ℕ) → length (imprint_text (record { oid = oid; params = None }) imprint) ≤ length oid + length imprint + 18
 imprint_short oid imprint =
-    let name : List ℕ = name_text (record { oid = oid; params = None }) in
+    let name : List ℕ = name_contents (record { oid = oid; params = None }) in
     omega (arith, name_short oid, value_length 48 name, value_length 4 imprint, length-append (value 48 name) (value 4 imprint))
 
-pub info_short : (asked : Request) (serial : List ℕ) (now : Moment) (text : List ℕ) → length serial ≤ 2 → Text text now
+pub info_short : (asked : ToStamp) (serial : List ℕ) (now : Moment) (text : List ℕ) → length serial ≤ 2 → Text text now
     → length (tst_contents (with_text text (info_with asked serial now))) ≤ sizes asked.hash asked.imprint asked.nonce + 100
 info_short asked serial now text few said =
     let version = value 2 (1 ∷ []) in

@@ -5,19 +5,18 @@ use Rattle.civil_moment.specs.declared.moment.Moment.{Moment}
 use Rattle.hash_kit.specs.declared.algorithm.HashAlg.{HashAlg}
 use Rattle.hash_kit.specs.Algorithm.{algorithm_of}
 use Rattle.der_values.specs.Value.{value}
-use Rattle.der_values.specs.Algorithm.{Name}
+use Rattle.der_values.specs.Algorithm.{Name, are_none_or_null}
 use Rattle.lms_verify.specs.Hss.{Verifies}
 use Rattle.lms_sign.proofs.Levels.{signs}
-use Rattle.tst_info.specs.Request.{Request}
+use Rattle.tst_info.specs.Request.{ToStamp}
 use Rattle.tst_info.specs.Response.{ReadsResponse, response_text}
 use Rattle.tst_info.proofs.InfoReadable.{tst_read_again}
 use Rattle.tst_info.proofs.ResponseReadable.{response_answered}
-use Rattle.cms_signed.specs.Names.{are_none_or_null}
 use Rattle.cms_signed.specs.Signed.{as_set}
 use Rattle.cms_signed.specs.Text.{attributes_text, written}
 use Rattle.cms_signed.proofs.TokenWritten.{is_read_again}
 use Rattle.algorithm_policy.specs.Content.{Content}
-use Rattle.token_check.specs.Sound.{known_hash}
+use Rattle.cms_signed.specs.Names.{known_hash}
 use Rattle.trial_authority.specs.Key.{trial_key, public_of, leaves, Trusts}
 use Rattle.trial_authority.specs.Reply.{Asks, positive, info_of, to_sign_of, signature_of, token_of, Grants, IsSoundReply}
 use Rattle.trial_authority.proofs.Lengths.{known_key, length-certificate, positive_length}
@@ -40,7 +39,7 @@ verifies seed index info key inside is =
     let attributes = attributes_text (to_sign_of seed info) in
     rw (is, set_is attributes) (signs (trial_key seed) index (value 0x31 attributes) (known_key seed) inside)
 
-pub sound_reply : (policy : Content) (seed : List ℕ) (index : ℕ) (now : Moment) (request : List ℕ) (asked : Request) (alg : HashAlg) (reply : List ℕ) → index < leaves
+pub sound_reply : (policy : Content) (seed : List ℕ) (index : ℕ) (now : Moment) (request : List ℕ) (asked : ToStamp) (alg : HashAlg) (reply : List ℕ) → index < leaves
     → Asks request asked alg → Grants seed index now asked reply → Trusts policy seed → IsSoundReply policy seed now asked alg reply
 sound_reply policy seed index now request asked alg reply inside asks grants trusts =
     let info = grants.info in

@@ -6,16 +6,14 @@ use Rattle.std.specs.Prelude.{nat_lt, ◌/◌, ◌%◌}
 use Rattle.civil_moment.specs.declared.moment.Moment.{Moment}
 use Rattle.civil_moment.specs.Moment.{Text}
 use Rattle.hash_kit.specs.declared.algorithm.HashAlg.{HashAlg}
-use Rattle.der_values.specs.Value.{length_octets, value}
-use Rattle.der_values.specs.Typed.{has_excess}
+use Rattle.der_values.specs.Value.{length_octets, value, bytes_or_none}
+use Rattle.der_values.specs.Typed.{has_excess, IsInteger}
 use Rattle.der_values.proofs.Values.{value_length}
 use Rattle.lms_sign.specs.declared.secret.HssSecret.{HssSecret}
 use Rattle.lms_sign.specs.Hss.{hss_signature}
-use Rattle.tst_info.specs.Request.{Request}
+use Rattle.tst_info.specs.Request.{ToStamp}
 use Rattle.tst_info.specs.Info.{tst_contents, with_text, WritesTst, HasTstSpelling}
 use Rattle.tst_info.specs.Response.{response_contents, IsToken}
-use Rattle.tst_info.specs.Imprint.{bytes_or_none}
-use Rattle.tst_info.specs.Spelling.{IsInteger}
 use Rattle.tst_info.proofs.Rewritable.{a_request_can_be_written}
 use Rattle.tst_info.proofs.Small.{sizes_within_request}
 use Rattle.cms_signed.specs.Text.{ToSign, attributes_text, token_contents, token_text, IsSid, HasText}
@@ -35,13 +33,13 @@ positive_is n most =
     (λ e. record { some = λ f. cc; fewest = refl })
     (λ e. record { some = λ f. cc; fewest = no_excess n (grind (arith, nat_tests)) most })
 
-pub contents_short : (request : List ℕ) (asked : Request) (alg : HashAlg) (serial : List ℕ) (now : Moment) (text : List ℕ) → Asks request asked alg → length serial ≤ 2 → Text text now
+pub contents_short : (request : List ℕ) (asked : ToStamp) (alg : HashAlg) (serial : List ℕ) (now : Moment) (text : List ℕ) → Asks request asked alg → length serial ≤ 2 → Text text now
     → length (tst_contents (with_text text (info_with asked serial now))) ≤ 4196
 contents_short request asked alg serial now text asks few said =
     let written = a_request_can_be_written request asked asks.reads in
     omega (arith, info_short asked serial now text few said, sizes_within_request asked.hash asked.imprint asked.nonce, written.1, asks.short)
 
-pub info_spelled : (request : List ℕ) (asked : Request) (alg : HashAlg) (serial : List ℕ) (now : Moment) → Asks request asked alg → length serial ≤ 2 → IsInteger serial
+pub info_spelled : (request : List ℕ) (asked : ToStamp) (alg : HashAlg) (serial : List ℕ) (now : Moment) → Asks request asked alg → length serial ≤ 2 → IsInteger serial
     → HasTstSpelling (info_with asked serial now)
 info_spelled request asked alg serial now asks few is =
     let written = (a_request_can_be_written request asked asks.reads).0 in
@@ -53,7 +51,7 @@ info_spelled request asked alg serial now asks few is =
       short = λ text said. omega (arith, contents_short request asked alg serial now text asks few said);
     }
 
-pub info_length : (request : List ℕ) (asked : Request) (alg : HashAlg) (index : ℕ) (now : Moment) (info : List ℕ) → Asks request asked alg → WritesTst info (info_of asked index now) → length info ≤ 4202
+pub info_length : (request : List ℕ) (asked : ToStamp) (alg : HashAlg) (index : ℕ) (now : Moment) (info : List ℕ) → Asks request asked alg → WritesTst info (info_of asked index now) → length info ≤ 4202
 info_length request asked alg index now info asks says =
     let contents = tst_contents (with_text says.text (info_of asked index now)) in
     omega (arith, ap length says.is, value_length 48 contents, contents_short request asked alg (positive (index + 1)) now says.text asks (positive_length (index + 1)) says.said)

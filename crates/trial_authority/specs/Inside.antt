@@ -1,12 +1,12 @@
 -- What private functions say of each other.
-use Rattle.std.specs.Prelude.{◌≡◌, ◌⊎◌, ℕ, ◌+◌, ◌<◌, ◌≤◌, Bool, true, false, IsTrue, List, length, Some, None}
+use Rattle.std.specs.Prelude.{◌≡◌, ◌⊎◌, ℕ, ◌+◌, ◌<◌, ◌≤◌, Bool, true, false, IsTrue, List, length, Some}
 use Rattle.std.specs.declared.option.Option.{Option}
 use Rattle.civil_moment.specs.declared.moment.Moment.{Moment}
 use Rattle.hash_kit.specs.declared.algorithm.HashAlg.{HashAlg}
 use Rattle.key_state.specs.declared.fault.StateFault.{StateFault}
 use Rattle.key_state.specs.declared.fault.StateFault.TheVariants.{DiskFault, NotFormatted, WrongLength, Exhausted, Broken, Memory}
-use Rattle.key_state.specs.View.{View, IsState}
-use Rattle.tst_info.specs.Request.{Request}
+use Rattle.key_state.specs.View.{IsState}
+use Rattle.tst_info.specs.Request.{ToStamp}
 use Rattle.trial_authority.specs.Key.{leaves}
 use Rattle.trial_authority.specs.Reply.{Asks, Grants, rejection}
 use Rattle.trial_authority.specs.Stamping.{Opened, IsMisfit, Refuses}
@@ -14,18 +14,6 @@ use Rattle.trial_authority.specs.declared.indexes.Indexes.{Indexes}
 use Rattle.trial_authority.specs.declared.indexes.Indexes.TheVariants.{Unopened, Open}
 
 -- ---- the state
-
--- an open key state, as contracts see it
-abbrev pub opened_of : {D : Type 0} → View D → Opened
-opened_of k = record { next = k.next; broken = k.broken }
-
-abbrev pub disk_of : {D : Type 0} → Indexes D → D
-disk_of (Unopened disk) = disk
-disk_of (Open k) = k.disk
-
-abbrev pub state_of : {D : Type 0} → Indexes D → Option Opened
-state_of (Unopened disk) = None
-state_of (Open k) = Some (opened_of k)
 
 -- an open state is the one of the disk, of 1,024 indexes
 abbrev pub IsHeld : {D : Type 0} → Bool → (D → List ℕ) → (D → List ℕ → Type 0) → Indexes D → Type 0
@@ -88,7 +76,7 @@ pub record IsGiven (seed : List ℕ) (before : Opened) (after : Option Opened) (
   pub whole : before.broken ≡ false
   pub left : before.next < leaves
   pub used : after ≡ Some (record { next = before.next + 1; broken = false })
-  pub asked : Request
+  pub asked : ToStamp
   pub alg : HashAlg
   pub asks : Asks request asked alg
   pub grants : Grants seed before.next now asked reply

@@ -15,6 +15,7 @@ trial_key seed = record { seed = seed; levels = 2; lms_type = 5; ots_type = 3 }
 abbrev pub public_of : List ℕ → List ℕ
 public_of seed = hss_public (trial_key seed)
 
+-- how many messages the key signs
 abbrev pub leaves : ℕ
 leaves = 1024
 

@@ -1,14 +1,20 @@
 -- What contracts see in a trial authority, and what a stamp does to it.
-use Rattle.std.specs.Prelude.{◌≡◌, ◌≢◌, ◌⊎◌, ℕ, ◌+◌, ◌<◌, ◌≤◌, Bool, true, false, IsTrue, List, length, Option, Some, None}
+use Rattle.std.specs.Prelude.{◌≡◌, ◌≢◌, ◌⊎◌, ℕ, ◌+◌, ◌<◌, ◌≤◌, Bool, true, false, IsTrue, List, length, Option, Some, None, Result, Vec, IfOk, IsErrOf}
 use Rattle.civil_moment.specs.declared.moment.Moment.{Moment}
 use Rattle.hash_kit.specs.declared.algorithm.HashAlg.{HashAlg}
+use Rattle.ev_world.specs.Causes.{Rose}
+use Rattle.ev_world.specs.Disk.{LeavesOnly}
 use Rattle.ev_world.specs.declared.authority.StampCall.{StampCall}
-use Rattle.key_state.specs.Keys.{next_index, IsFormatted}
-use Rattle.key_state.specs.View.{IsState}
-use Rattle.tst_info.specs.Request.{Request}
+use Rattle.ev_world.specs.declared.authority.StampFault.{StampFault}
+use Rattle.ev_world.specs.declared.authority.StampFault.TheVariants.{Failed, Memory}
+use Rattle.key_state.specs.Keys.{next_index, IsKeyStateFormatted}
+use Rattle.key_state.specs.View.{IsState, KeyStateView}
+use Rattle.tst_info.specs.Request.{ToStamp}
 use Rattle.algorithm_policy.specs.Content.{Content}
 use Rattle.trial_authority.specs.Key.{leaves, Trusts}
 use Rattle.trial_authority.specs.Reply.{Asks, AsksNothing, Grants, IsSoundReply, rejection}
+use Rattle.trial_authority.specs.declared.indexes.Indexes.{Indexes}
+use Rattle.trial_authority.specs.declared.indexes.Indexes.TheVariants.{Unopened, Open}
 
 -- an open key state: the index that is given next, and whether the write of one has failed
 pub record Opened : Type 0 where
@@ -32,15 +38,15 @@ IsKept tells reads images disk (Some s) = IsTrue tells → IsState (reads disk) 
 -- The bytes are no state of 1,024 indexes, and none can be made over them: there is a header and another length, or no header and
 -- more bytes than those of a state.
 pub record IsMisfit (bytes : List ℕ) : Type 0 where
-  pub headed : IsFormatted bytes → length bytes ≢ 16 + leaves
-  pub bare : ¬ IsFormatted bytes → 16 + leaves < length bytes
+  pub headed : IsKeyStateFormatted bytes → length bytes ≢ 16 + leaves
+  pub bare : ¬ IsKeyStateFormatted bytes → 16 + leaves < length bytes
 
 -- A stamp opens this state: the one that is open already; else the one on the disk, or a new one of which no index is used.
 pub record Opens {D : Type 0} (tells : Bool) (reads : D → List ℕ) (disk : D) (before : Option Opened) (s : Opened) : Type 0 where
   pub still : (was : Opened) → before ≡ Some was → s ≡ was
   pub whole : before ≡ None → s.broken ≡ false
-  pub on_disk : before ≡ None → IsTrue tells → IsFormatted (reads disk) → s.next ≡ next_index (reads disk)
-  pub made : before ≡ None → IsTrue tells → ¬ IsFormatted (reads disk) → s.next ≡ 0
+  pub on_disk : before ≡ None → IsTrue tells → IsKeyStateFormatted (reads disk) → s.next ≡ next_index (reads disk)
+  pub made : before ≡ None → IsTrue tells → ¬ IsKeyStateFormatted (reads disk) → s.next ≡ 0
   pub fits : before ≡ None → IsTrue tells → ¬ IsMisfit (reads disk)
 
 -- ---- the answers
@@ -52,7 +58,7 @@ pub record IsGranted {D : Type 0} (tells : Bool) (reads : D → List ℕ) (seed 
   pub whole : state.broken ≡ false
   pub left : state.next < leaves
   pub used : after ≡ Some (record { next = state.next + 1; broken = false })
-  pub asked : Request
+  pub asked : ToStamp
   pub alg : HashAlg
   pub asks : Asks request asked alg
   pub grants : Grants seed state.next now asked reply
@@ -95,5 +101,35 @@ Wants (Some s) after = (after ≡ Some s) ⊎ ((s.broken ≡ false) × (after �
 
 -- bytes with a header, whose next index isn't lower than this one
 pub record IsMarkedTo (index : ℕ) (bytes : List ℕ) : Type 0 where
-  pub formatted : IsFormatted bytes
+  pub formatted : IsKeyStateFormatted bytes
   pub next : index ≤ next_index bytes
+
+-- ---- a stamp
+
+-- What a stamp does, by its answer. A reply grants by the next index of the state, or rejects, each exactly where it has to. It fails
+-- only where the disk does, and no crash since it began leaves a lower index than there was before.
+pub record IsStamped {D : Type 0} {A : Type 0} (tells : Bool) (reads : D → List ℕ) (images : D → List ℕ → Type 0) (clock : D → ℕ) (since : D → ℕ → List ℕ → Type 0) (faults : D → ℕ)
+    (seed : List ℕ) (old : D) (before : Option Opened) (new : D) (after : Option Opened) (now : Moment) (request : List ℕ) (result : Result (Vec ℕ A) StampFault) : Type 0 where
+  pub answers : IfOk result (λ reply. Answers tells reads seed old before after now request reply.items)
+  pub rose : IsErrOf result Failed → Rose (faults old) (faults new)
+  -- a state that was open stays open, and one that is broken stays broken
+  pub breaks : IsErrOf result Failed → Breaks before after
+  pub wants : IsErrOf result Memory → Wants before after
+  -- bytes with a header that are no state are left as they were
+  pub untouched : after ≡ None → IsTrue tells → IsKeyStateFormatted (reads old) → reads new ≡ reads old
+  pub later : faults old ≤ faults new
+  pub any_moment : (n : ℕ) → IsTrue tells → ((c : List ℕ) → images old c → IsMarkedTo n c) → LeavesOnly clock since old new (IsMarkedTo n)
+
+-- an open key state, as contracts see it
+abbrev pub opened_of : {D : Type 0} → KeyStateView D → Opened
+opened_of k = record { next = k.next; broken = k.broken }
+
+-- the disk of the key state, open or not
+abbrev pub disk_of : {D : Type 0} → Indexes D → D
+disk_of (Unopened disk) = disk
+disk_of (Open k) = k.disk
+
+-- the key state, once it is open
+abbrev pub state_of : {D : Type 0} → Indexes D → Option Opened
+state_of (Unopened disk) = None
+state_of (Open k) = Some (opened_of k)

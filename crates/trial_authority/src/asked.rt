@@ -1,5 +1,5 @@
 // What is stamped.
-ghost use Rattle.std.specs.Prelude.{◌≡◌, Some, IfSome, IfNone};
+ghost use Rattle.std.specs.Prelude.{Some, IfSome, IfNone};
 ghost use Rattle.hash_kit.specs.declared.algorithm.HashAlg.{HashAlg};
 ghost use Rattle.tst_info.specs.Request.{request_seen};
 ghost use Rattle.trial_authority.specs.Reply.{Asks, AsksNothing};

@@ -1,18 +1,15 @@
 // The trial authority.
-ghost use Rattle.std.specs.Prelude.{◌≡◌, ◌≤◌, ℕ, [], ◌∷◌, ◌++◌, List, Some, None, IsTrue, IfSome, IfOk, IfErr, OnOk, IsErrOf};
-ghost use Rattle.ev_world.specs.Causes.{Rose};
-ghost use Rattle.ev_world.specs.Disk.{LeavesOnly};
-ghost use Rattle.key_state.specs.Keys.{IsFormatted};
+ghost use Rattle.std.specs.Prelude.{◌≡◌, [], Some, None, IfSome, IfOk, IfErr, OnOk};
+ghost use Rattle.ev_world.specs.Calls.{IsListed};
 ghost use Rattle.trial_authority.specs.Key.{trial_key};
-ghost use Rattle.trial_authority.specs.Stamping.{IsKept, IsMarkedTo, Answers, Breaks, Wants};
+ghost use Rattle.trial_authority.specs.Stamping.{IsKept, IsStamped};
 
 use crate::indexes::Indexes;
 use crate::key::key_of;
 use crate::stamping::{Call, stamped};
 use civil_moment::Moment;
 use core::mem::replace_with;
-use ev_devices::{copied, keep_failed, keep_replied};
-use ev_world::{Authority, Disk, StampCall, StampFault};
+use ev_world::{Authority, Disk, StampCall, StampCalls, StampFault};
 use lms_sign::HssKey;
 use std::alloc::{AllocError, Global};
 use std::marker::Model;
@@ -26,18 +23,19 @@ pub struct TrialAuthority<B: Disk> {
     // A key is some ten thousands of digests, which a run without a stamp is spared.
     key: Option<HssKey>,
     indexes: Indexes<B>,
-    calls: Vec<StampCall>,
+    calls: StampCalls,
 }
 
 impl<B: Disk> Model for TrialAuthority<B> {
     ghost use Rattle.std.specs.Prelude.{◌≡◌, IfSome};
     ghost use Rattle.trial_authority.specs.Key.{trial_key};
     ghost use Rattle.trial_authority.specs.Stamping.{Stamping};
-    ghost use Rattle.trial_authority.specs.Inside.{disk_of, state_of, IsHeld};
+    ghost use Rattle.trial_authority.specs.Inside.{IsHeld};
+    ghost use Rattle.trial_authority.specs.Stamping.{disk_of, state_of};
 
     ghost Value = { Stamping B };
 
-    ghost view = { λ a. record { seed = a.seed; disk = disk_of a.indexes; state = state_of a.indexes; calls = a.calls.items } };
+    ghost view = { λ a. record { seed = a.seed; disk = disk_of a.indexes; state = state_of a.indexes; calls = a.calls.list } };
 
     ghost invariant = { λ a. IfSome a.key (λ key. key ≡ trial_key a.seed) × IsHeld B.tells B.reads B.images a.indexes };
 }
@@ -53,7 +51,7 @@ impl<B: Disk> TrialAuthority<B> {
             seed,
             key: None,
             indexes: Indexes::Unopened(disk),
-            calls: Vec::new(alloc),
+            calls: StampCalls::new(alloc),
         })
     }
 
@@ -69,31 +67,16 @@ impl<B: Disk> Authority for TrialAuthority<B> {
     ghost made = { λ a. a.calls };
 
     fn stamp(&mut self, now: Moment, request: &[u8]) -> Result<Vec<u8>, StampFault>
-        ensures replied { IfOk result (λ reply. self.new.calls ≡ self.old.calls ++ record { now = now; request = request.now; reply = Some reply.items } ∷ []) }
-        ensures failed { IsErrOf result StampFault.Failed → self.new.calls ≡ self.old.calls ++ record { now = now; request = request.now; reply = None } ∷ [] }
-        ensures memory { IsErrOf result StampFault.Memory → self.new.calls ≡ self.old.calls }
-
-        // A reply grants by the next index of the state, or rejects, each exactly where it has to.
-        ensures answers { IfOk result (λ reply. Answers B.tells B.reads self.old.seed self.old.disk self.old.state self.new.state now request.now reply.items) }
-        // It fails only where the disk does.
-        ensures rose { IsErrOf result StampFault.Failed → Rose (B.faults self.old.disk) (B.faults self.new.disk) }
-        ensures later { B.faults self.old.disk ≤ B.faults self.new.disk }
-        // A state that was open stays open, and one that is broken stays broken.
-        ensures breaks { IsErrOf result StampFault.Failed → Breaks self.old.state self.new.state }
-        ensures wants { IsErrOf result StampFault.Memory → Wants self.old.state self.new.state }
-        // Bytes with a header that are no state are left as they were.
-        ensures untouched { self.new.state ≡ None → IsTrue B.tells → IsFormatted (B.reads self.old.disk) → B.reads self.new.disk ≡ B.reads self.old.disk }
-        // Every crash from now on leaves a state whose next index isn't lower than the authority's, and none since the call began
-        // leaves a lower one than there was before.
+        ensures listed { IsListed self.old.calls self.new.calls now request.now result }
+        ensures stamped { IsStamped B.tells B.reads B.images B.clock B.since B.faults self.old.seed self.old.disk self.old.state self.new.disk self.new.state now request.now result }
+        // Every crash from now on leaves a state whose next index isn't lower than the authority's.
         ensures kept { IsKept B.tells B.reads B.images self.new.disk self.new.state }
-        ensures any_moment { (n : ℕ) → IsTrue B.tells → ((c : List ℕ) → B.images self.old.disk c → IsMarkedTo n c)
-            → LeavesOnly B.clock B.since self.old.disk self.new.disk (IsMarkedTo n) }
         ensures seed { self.new.seed ≡ self.old.seed }
     {
-        let (Ok(kept), Ok(())) = (copied(self.alloc, request), self.calls.reserve(1)) else {
-            return Err(StampFault::Memory);
-        };
-        let Ok(()) = make_key(self.alloc, &self.seed, &mut self.key) else {
+        let (Ok(copy), Ok(())) = (
+            self.calls.begin(request),
+            make_key(self.alloc, &self.seed, &mut self.key),
+        ) else {
             return Err(StampFault::Memory);
         };
         let Some(key) = &self.key else {
@@ -105,20 +88,14 @@ impl<B: Disk> Authority for TrialAuthority<B> {
             now,
             request,
         };
-        match replace_with(&mut self.indexes, call, stamped) {
-            Ok(reply) => keep_replied(self.alloc, &mut self.calls, now, kept, reply),
-            Err(StampFault::Failed) => {
-                keep_failed(&mut self.calls, now, kept);
-                Err(StampFault::Failed)
-            }
-            Err(StampFault::Memory) => Err(StampFault::Memory),
-        }
+        let answer = replace_with(&mut self.indexes, call, stamped);
+        self.calls.end(now, copy, answer)
     }
 
     fn calls(&self) -> &[StampCall]
         ensures { result.now ≡ self.now.calls }
     {
-        &self.calls
+        self.calls.as_slice()
     }
 }
 

@@ -8,11 +8,13 @@ mod indexes;
 mod key;
 mod pair;
 mod reply;
+mod signer;
 mod stamping;
 
 pub use authority::TrialAuthority;
 pub use key::{TRIAL_SEED, trial_public};
 pub use pair::TrialPair;
+pub use signer::trial_signer;
 
 #[cfg(test)]
 mod tests;

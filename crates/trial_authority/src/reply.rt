@@ -144,7 +144,7 @@ fn certificate(key: &HssKey) -> HashValue
 }
 
 // The encoding of the signer's identifier: the tag, the length and 20 bytes.
-fn identifier(alloc: Global, certificate: &HashValue) -> Result<Bytes, AllocError>
+pub(crate) fn identifier(alloc: Global, certificate: &HashValue) -> Result<Bytes, AllocError>
     requires { 20 ≤ length certificate.now }
     ensures { IfOk result (λ sid. sid ≡ 0x80 ∷ 0x14 ∷ take 20 certificate.now) }
 {

@@ -3,13 +3,14 @@ ghost use Rattle.std.specs.Prelude.{◌≡◌, ◌+◌, ◌≤◌, ◌<◌, ℕ,
 ghost use Rattle.hash_kit.specs.declared.algorithm.HashAlg.{HashAlg};
 ghost use Rattle.ev_world.specs.Causes.{Rose};
 ghost use Rattle.ev_world.specs.Disk.{LeavesOnly};
-ghost use Rattle.key_state.specs.Keys.{IsFormatted};
+ghost use Rattle.key_state.specs.Keys.{IsKeyStateFormatted};
 ghost use Rattle.key_state.specs.View.{IsState};
 ghost use Rattle.tst_info.specs.Request.{request_seen};
 ghost use Rattle.trial_authority.specs.Key.{trial_key, leaves};
 ghost use Rattle.trial_authority.specs.Reply.{Asks, Grants, rejection};
-ghost use Rattle.trial_authority.specs.Stamping.{IsMarkedTo, Answers, Breaks, Wants};
-ghost use Rattle.trial_authority.specs.Inside.{opened_of, disk_of, state_of, IsHeld, IsRefusal, IsNoDiskFault, Keeps, Gives};
+ghost use Rattle.trial_authority.specs.Stamping.{IsMarkedTo, Answers, Breaks, Wants, IsStamped};
+ghost use Rattle.trial_authority.specs.Inside.{IsHeld, IsRefusal, IsNoDiskFault, Keeps, Gives};
+ghost use Rattle.trial_authority.specs.Stamping.{opened_of, disk_of, state_of};
 
 use crate::asked::stampable;
 use crate::indexes::{Indexes, opened};
@@ -38,15 +39,8 @@ pub(crate) fn stamped<B: Disk>(
     requires key { call.key.now ≡ trial_key call.key.now.seed }
     requires held { IsHeld B.tells B.reads B.images indexes }
     ensures held { IsHeld B.tells B.reads B.images result.0 }
-    ensures answers { IfOk result.1 (λ reply. Answers B.tells B.reads call.entry.key.now.seed (disk_of indexes) (state_of indexes) (state_of result.0) call.entry.now call.entry.request.now reply.items) }
-    ensures failed { IsErrOf result.1 StampFault.Failed → Rose (B.faults (disk_of indexes)) (B.faults (disk_of result.0)) }
-    ensures breaks { IsErrOf result.1 StampFault.Failed → Breaks (state_of indexes) (state_of result.0) }
-    ensures wants { IsErrOf result.1 StampFault.Memory → Wants (state_of indexes) (state_of result.0) }
-    ensures untouched { state_of result.0 ≡ None → IsTrue B.tells → IsFormatted (B.reads (disk_of indexes))
-        → B.reads (disk_of result.0) ≡ B.reads (disk_of indexes) }
-    ensures later { B.faults (disk_of indexes) ≤ B.faults (disk_of result.0) }
-    ensures any_moment { (n : ℕ) → IsTrue B.tells → ((c : List ℕ) → B.images (disk_of indexes) c → IsMarkedTo n c)
-        → LeavesOnly B.clock B.since (disk_of indexes) (disk_of result.0) (IsMarkedTo n) }
+    ensures stamped { IsStamped B.tells B.reads B.images B.clock B.since B.faults call.entry.key.now.seed (disk_of indexes) (state_of indexes) (disk_of result.0) (state_of result.0)
+        call.entry.now call.entry.request.now result.1 }
 {
     match indexes {
         Indexes::Open(state) => stamped_by(state, call),
@@ -61,7 +55,7 @@ fn stamped_on<B: Disk>(disk: B, call: Call<'_>) -> (Indexes<B>, Result<Vec<u8>, 
     ensures answers { IfOk result.1 (λ reply. Answers B.tells B.reads call.entry.key.now.seed disk None (state_of result.0) call.entry.now call.entry.request.now reply.items) }
     ensures failed { IsErrOf result.1 StampFault.Failed → Rose (B.faults disk) (B.faults (disk_of result.0)) }
     ensures breaks { IsErrOf result.1 StampFault.Failed → Breaks None (state_of result.0) }
-    ensures untouched { state_of result.0 ≡ None → IsTrue B.tells → IsFormatted (B.reads disk) → B.reads (disk_of result.0) ≡ B.reads disk }
+    ensures untouched { state_of result.0 ≡ None → IsTrue B.tells → IsKeyStateFormatted (B.reads disk) → B.reads (disk_of result.0) ≡ B.reads disk }
     ensures later { B.faults disk ≤ B.faults (disk_of result.0) }
     ensures any_moment { (n : ℕ) → IsTrue B.tells → ((c : List ℕ) → B.images disk c → IsMarkedTo n c)
         → LeavesOnly B.clock B.since disk (disk_of result.0) (IsMarkedTo n) }

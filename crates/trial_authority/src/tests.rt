@@ -4,7 +4,7 @@ use crate::{TrialAuthority, TrialPair, trial_public};
 use algorithm_policy::read_policy;
 use civil_moment::Moment;
 use cms_signed::read_signed;
-use der_values::{Bytes, Items};
+use der_values::{Bytes, Items, zeros};
 use ev_devices::{MemDisk, Scripted};
 use ev_world::{Authority, StampFault};
 use hash_kit::{HashAlg, HashValue, digest};
@@ -240,9 +240,4 @@ fn a_pair_stamps_with_the_late_one_from_the_moment_on(rt: HostRuntime) -> Result
     assert_eq!(&rt; asked(&mut pair, BEFORE), None);
     assert_eq!(&rt; pair.calls().len(), 3);
     Ok(())
-}
-
-// The size is a parameter, so that no proof writes out a list of so many zeros.
-fn zeros(alloc: Global, size: usize) -> Result<Vec<u8>, AllocError> {
-    vec![in alloc; 0; size]
 }

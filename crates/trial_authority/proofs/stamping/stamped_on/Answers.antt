@@ -1,6 +1,6 @@
 use Rattle.ev_world.proofs.Moments.{weakly, follows_on}
 use Rattle.trial_authority.specs.Stamping.{IsMarkedTo}
-use Rattle.trial_authority.specs.Inside.{opened_of}
+use Rattle.trial_authority.specs.Stamping.{opened_of}
 use Rattle.trial_authority.proofs.Answered.{opens_now, answered}
 use Rattle.trial_authority.proofs.States.{if_ok}
 use Rattle.trial_authority.proofs.stamping.stamped_on.Goals as goal

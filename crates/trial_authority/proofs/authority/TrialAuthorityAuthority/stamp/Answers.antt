@@ -1,17 +1,10 @@
-use Rattle.trial_authority.proofs.Answered.{answers_want, held_kept}
+use Rattle.trial_authority.proofs.Answered.{seed_of, handed_by, held_kept}
 use Rattle.trial_authority.proofs.authority.TrialAuthorityAuthority.stamp.Goals as goal
 
-pub returns-in-Ok-replace_with-clause-wants : goal.returns-in-Ok-replace_with-clause-wants
-returns-in-Ok-replace_with-clause-wants g c = λ memory. rw (← c.self.view_is) (answers_want _ _ _ _ _ _ _ _ _ c.in-Ok-replace_with.ensures.1.0)
+pub returns-clause-stamped : goal.returns-clause-stamped
+returns-clause-stamped g c =
+    let same = seed_of c.make_key.new.key c.in-Some.key c.self.inside.seed c.in-Ok-Ok.ensures'.made c.in-Some.is in
+    rw (← c.self.view_is) (handed_by _ _ _ _ _ _ _ _ _ _ _ _ same _ _ _ _ c.end.ensures.handed c.replace_with-answer.ensures.1)
 
-pub returns-in-Ok-replace_with-clause-kept : goal.returns-in-Ok-replace_with-clause-kept
-returns-in-Ok-replace_with-clause-kept g c = held_kept _ _ _ _ c.in-Ok-replace_with.ensures.0
-
-pub returns-in-Ok-replace_with-clause-any_moment : goal.returns-in-Ok-replace_with-clause-any_moment
-returns-in-Ok-replace_with-clause-any_moment g c = rw (← c.self.view_is) c.in-Ok-replace_with.ensures.1.1.1.1.1.1.1
-
-pub returns-in-Err-Failed-clause-any_moment : goal.returns-in-Err-Failed-clause-any_moment
-returns-in-Err-Failed-clause-any_moment g c = rw (← c.self.view_is) c.in-Err-Failed.ensures.1.1.1.1.1.1.1
-
-pub returns-in-Err-Memory-clause-any_moment : goal.returns-in-Err-Memory-clause-any_moment
-returns-in-Err-Memory-clause-any_moment g c = rw (← c.self.view_is) c.in-Err-Memory.ensures.1.1.1.1.1.1.1
+pub returns-clause-kept : goal.returns-clause-kept
+returns-clause-kept g c = held_kept _ _ _ _ c.replace_with-answer.ensures.0
