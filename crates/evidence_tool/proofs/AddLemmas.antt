@@ -1,21 +1,16 @@
 -- What a further entry does to the archive.
-use Rattle.std.proofs.Common.{◌≡◌, ◌⊎◌, inl, inr, ℕ, ◌+◌, ◌-◌, ◌^◌, ◌≤◌, ◌<◌, Bool, true, false, IsTrue, Result, Ok, Err, List, [], ◌∷◌, ◌++◌, length, map, drop, take, sum, sum_by, refl, sym, ap, ◌∙◌, subst, arith}
+use Rattle.std.proofs.Common.{◌≡◌, ◌⊎◌, inl, inr, ℕ, ◌+◌, ◌-◌, ◌^◌, ◌≤◌, ◌<◌, Bool, true, false, IsTrue, List, [], ◌∷◌, ◌++◌, length, map, sum, sum_by, refl, sym, ap, ◌∙◌, subst, arith}
 use Rattle.std.specs.List.{AllByRecursion}
 use Rattle.std.proofs.lemmas.List.{length-map, length-append}
 use Rattle.std.proofs.lemmas.List.Sums.{sum_by-cons, sum-map}
 use Rattle.ev_world.specs.Causes.{Rose}
 use Rattle.gate_journal.specs.Journal.{Reads}
-use Rattle.gate_journal.specs.declared.fault.JournalFault.{JournalFault}
-use Rattle.gate_journal.specs.declared.fault.JournalFault.TheVariants.{DiskFault, Full, Broken}
 use Rattle.gate_journal.specs.View.{end_from}
 use Rattle.evidence_tool.specs.Entries.{entry_spelling}
-use Rattle.evidence_tool.specs.Session.{State, HasRoom, ComesToDisk, IsAdded, IsClosed, IsSame, journal_size}
-use Rattle.evidence_tool.specs.History.{sizes_in, documents_in, AreDeposits, IsHistory, Holds, HoldsOrOneMore, IsArchive, state_of, Archive}
-use Rattle.evidence_tool.proofs.DepositLemmas.{length-entry, document_of_entry, IsNext, one_more, documents_more, sizes_more}
-
-pub is_false : (b : Bool) → (IsTrue b → ⊥) → b ≡ false
-is_false true h = absurd (h refl)
-is_false false h = refl
+use Rattle.evidence_tool.specs.Session.{HasRoom, ComesToDisk, IsAdded, IsClosed, IsSame, journal_size}
+use Rattle.evidence_tool.specs.History.{IsHistory, Holds}
+use Rattle.evidence_tool.specs.Inside.{sizes_in, documents_in, AreDeposits, HoldsOrOneMore, IsArchive, state_of, Archive}
+use Rattle.evidence_tool.proofs.DepositLemmas.{length-entry, document_of_entry, one_more, documents_more, sizes_more}
 
 all_lengths : (ds : List (List ℕ)) → AllByRecursion (λ n. n ≤ 1048576) (map length ds) → AllByRecursion (λ d. length d ≤ 1048576) ds
 all_lengths [] all = tt
@@ -167,19 +162,6 @@ room_of {D} a b n is room = record {
   bytes = subst (λ (x : Archive D). sum x.state.sizes + n ≤ 268435456) is room.bytes;
 }
 
-pub ok_is_no_err : {T E : Type 0} (r : Result T E) (x : T) (e : E) → r ≡ Ok x → r ≡ Err e → ⊥
-ok_is_no_err r x e ok err = cc
-
-le_of_not : (a b : ℕ) → (a < b → ⊥) → b ≤ a
-le_of_not a b h = omega (arith, h)
-
--- an append that wasn't refused: the journal was whole, and there was room
-pub was_whole : {T E : Type 0} (r : Result T E) (old mid : Bool) (e : E) → mid ≡ old → (IsTrue mid → r ≡ Err e) → (r ≡ Err e → ⊥) → old ≡ false
-was_whole r old mid e same refuses not = is_false old (λ h. not (refuses (same ∙ h)))
-
-pub had_room : {T E : Type 0} (r : Result T E) (old mid : Bool) (e : E) (n : ℕ) → mid ≡ old → old ≡ false → (mid ≡ false → 2 ^ 30 < n → r ≡ Err e) → (r ≡ Err e → ⊥) → n ≤ 2 ^ 30
-had_room r old mid e n same opened refuses not = le_of_not (2 ^ 30) n (λ h. not (refuses (same ∙ opened) h))
-
 -- the same bound, of the lengths and the entry that these are
 pub end_with : (old mid : List ℕ) (entry d : List ℕ) → mid ≡ old → entry ≡ entry_spelling d → end_from 16 mid + length entry + 38 ≤ 2 ^ 30 → end_from 16 old + length (entry_spelling d) + 38 ≤ 2 ^ 30
 end_with old mid entry d same is fits =
@@ -219,12 +201,3 @@ pub read_after_fault : (tells : Bool) (b' : List ℕ) (payloads mid : List (List
 read_after_fault tells b' payloads mid entry d same is reads told =
     subst (λ (ps : List (List ℕ)). Reads b' ps ⊎ Reads b' (ps ++ entry_spelling d ∷ [])) same
     (subst (λ (e : List ℕ). Reads b' mid ⊎ Reads b' (mid ++ e ∷ [])) is (reads told))
-
-pub full_is_not_broken : {T : Type 0} (r : Result T JournalFault) (n k : ℕ) → r ≡ Err (Full n) → r ≡ Err (Broken k) → ⊥
-full_is_not_broken r n k one other = cc
-
-pub fault_is_not_broken : {T : Type 0} (r : Result T JournalFault) (k : ℕ) → r ≡ Err DiskFault → r ≡ Err (Broken k) → ⊥
-fault_is_not_broken r k one other = cc
-
-pub fault_is_not_full : {T : Type 0} (r : Result T JournalFault) (k : ℕ) → r ≡ Err DiskFault → r ≡ Err (Full k) → ⊥
-fault_is_not_full r k one other = cc

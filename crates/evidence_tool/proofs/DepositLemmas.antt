@@ -1,10 +1,10 @@
 -- Payloads that are deposits.
-use Rattle.std.proofs.Common.{◌≡◌, ℕ, ◌+◌, ◌-◌, ◌≤◌, ◌<◌, Bool, IsTrue, List, [], ◌∷◌, ◌++◌, length, map, drop, take, sum, sum_by, refl, sym, ap, ◌∙◌, subst, arith}
+use Rattle.std.proofs.Common.{◌≡◌, ℕ, ◌+◌, ◌-◌, ◌≤◌, Bool, IsTrue, List, [], ◌∷◌, ◌++◌, length, map, drop, take, sum, refl, sym, ap, ◌∙◌, subst, arith}
 use Rattle.std.specs.List.{AllByRecursion}
 use Rattle.std.proofs.lemmas.List.{map-append}
 use Rattle.std.proofs.lemmas.List.Sums.{sum_by-append}
 use Rattle.evidence_tool.specs.Entries.{entry_head, entry_spelling}
-use Rattle.evidence_tool.specs.History.{sizes_in, documents_in, AreDeposits}
+use Rattle.evidence_tool.specs.Inside.{sizes_in, documents_in, AreDeposits}
 
 -- an entry's parts
 pub length-entry : (d : List ℕ) → length (entry_spelling d) ≡ length d + 13

@@ -1,11 +1,11 @@
 -- A document that is read back.
-use Rattle.std.proofs.Common.{◌≡◌, ◌⊎◌, inl, inr, ℕ, ◌+◌, ◌-◌, ◌≤◌, ◌<◌, Bool, IsTrue, Option, Some, None, List, [], ◌∷◌, ◌++◌, length, map, drop, take, get_or, refl, sym, ap, ◌∙◌, subst, arith}
+use Rattle.std.proofs.Common.{◌≡◌, ℕ, ◌+◌, ◌-◌, ◌≤◌, Bool, IsTrue, Option, Some, None, List, ◌++◌, length, map, drop, take, refl, sym, ap, ◌∙◌, arith}
 use Rattle.std.specs.List.{slice_get}
 use Rattle.std.specs.Option.{option_map}
-use Rattle.std.proofs.lemmas.List.{length-map, take_all}
+use Rattle.std.proofs.lemmas.List.{take_all}
 use Rattle.std.proofs.Math.Seq.{take-append_seam}
-use Rattle.std.proofs.lemmas.Option.{slice_get-map, slice_get_within, slice_get-get_or, slice_get_past}
-use Rattle.evidence_tool.specs.History.{sizes_in, documents_in, AreDeposits}
+use Rattle.std.proofs.lemmas.Option.{slice_get-map}
+use Rattle.evidence_tool.specs.Inside.{sizes_in, documents_in, AreDeposits}
 
 pub record IsSize (sizes : List ℕ) (i n : ℕ) : Type 0 where
   pub at_least : 13 ≤ n

@@ -11,7 +11,7 @@ pub mod ReplyLemmas
 pub mod RequestLemmas
 pub mod ServingLemmas
 pub mod SessionLemmas
-pub mod SizeLemmas
+pub mod StopLemmas
 pub mod TrialLemmas
 mod StandardFacts
 mod VerifyingLemmas

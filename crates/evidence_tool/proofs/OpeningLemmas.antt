@@ -1,14 +1,16 @@
 -- Entries that are judged one after the other.
-use Rattle.std.proofs.Common.{◌≡◌, ◌⊎◌, inl, inr, ℕ, zero, suc, ◌+◌, ◌-◌, ◌*◌, ◌≤◌, ◌<◌, Bool, IsTrue, Option, Some, None, Result, Ok, Err, IfErr, List, [], ◌∷◌, ◌++◌, length, map, drop, take, get_or, refl, sym, ap, ◌∙◌, subst, arith}
+use Rattle.std.proofs.Common.{◌≡◌, inl, inr, ℕ, zero, suc, ◌+◌, ◌*◌, ◌≤◌, ◌<◌, Bool, IsTrue, Option, Some, Result, Ok, Err, IfErr, List, [], ◌∷◌, ◌++◌, length, map, drop, take, get_or, refl, sym, ap, ◌∙◌, subst, arith}
 use Rattle.std.specs.List.{slice_get, AllByRecursion, sum, sum_by}
 use Rattle.std.specs.Option.{option_map}
 use Rattle.std.proofs.lemmas.List.{length-map, take_all, take_more, take-append-drop, length-drop}
 use Rattle.std.proofs.lemmas.Option.{slice_get-get_or, slice_get-map, get_or_from_slice_get}
 use Rattle.std.proofs.lemmas.List.Sums.{sum-map}
-use Rattle.gate_journal.specs.View.{View}
+use Rattle.gate_journal.specs.View.{View, IsKept}
+use Rattle.gate_journal.proofs.Exclusive.{one_list}
+use Rattle.ev_world.proofs.QuietCalls.{quiet_then}
 use Rattle.evidence_tool.specs.Entries.{entry_head, entry_spelling}
-use Rattle.evidence_tool.specs.History.{sizes_in, documents_in, AreDeposits, IsHistory, IsArchive, Holds, HoldsOrOneMore}
-use Rattle.evidence_tool.specs.Inside.{IsKept, reason}
+use Rattle.evidence_tool.specs.History.{IsHistory, Holds}
+use Rattle.evidence_tool.specs.Inside.{sizes_in, documents_in, AreDeposits, IsArchive, reason}
 use Rattle.evidence_tool.specs.declared.history.HistoryFault.TheVariants as failed
 use Rattle.gate_journal.specs.Damage.{IsOutside}
 use Rattle.gate_journal.specs.declared.fault.JournalFault.{JournalFault}
@@ -17,8 +19,8 @@ use Rattle.evidence_tool.proofs.AddLemmas.{holds_of}
 use Rattle.evidence_tool.proofs.DepositLemmas.{IsNext, one_more, document_of_entry}
 
 -- the first entries of a journal are deposits of so many bytes
-pub record SoFar {D : Type 0} (tells : Bool) (reads : D → List ℕ) (faults : D → ℕ) (old now : View D) (entry total : ℕ) : Type 0 where
-  pub kept : IsKept tells reads faults old now
+pub record SoFar {D : Type 0} (tells : Bool) (reads : D → List ℕ) (images : D → List ℕ → Type 0) (clock : D → ℕ) (since : D → ℕ → List ℕ → Type 0) (faults : D → ℕ) (old now : View D) (entry total : ℕ) : Type 0 where
+  pub kept : IsKept tells reads images clock since faults old now
   pub deposits : AreDeposits tells (take entry old.lengths) (take entry old.payloads) total
   pub small : total ≤ 1048576 * entry
 
@@ -55,28 +57,29 @@ next_payload payloads lengths i n e below at head =
       size = rest;
     }
 
-kept_on : {D : Type 0} (tells : Bool) (reads : D → List ℕ) (faults : D → ℕ) (a b c : View D) → IsKept tells reads faults a b → IsKept tells reads faults b c → IsKept tells reads faults a c
-kept_on tells reads faults a b c p q = record {
+kept_on : {D : Type 0} (tells : Bool) (reads : D → List ℕ) (images : D → List ℕ → Type 0) (clock : D → ℕ) (since : D → ℕ → List ℕ → Type 0) (faults : D → ℕ) (a b c : View D) → IsKept tells reads images clock since faults a b → IsKept tells reads images clock since faults b c → IsKept tells reads images clock since faults a c
+kept_on tells reads images clock since faults a b c p q = record {
   lengths = q.lengths ∙ p.lengths;
   payloads = λ told. q.payloads told ∙ p.payloads told;
+  spare = q.spare ∙ p.spare;
   broken = q.broken ∙ p.broken;
-  same = λ told. q.same told ∙ p.same told;
+  quiet = λ told. quiet_then reads images clock since a.disk b.disk c.disk (p.quiet told) (q.quiet told);
   later = omega (arith, p.later, q.later);
 }
 
-pub so_far_more : {D : Type 0} (tells : Bool) (reads : D → List ℕ) (faults : D → ℕ) (old now next : View D) (entry total n : ℕ)
+pub so_far_more : {D : Type 0} (tells : Bool) (reads : D → List ℕ) (images : D → List ℕ → Type 0) (clock : D → ℕ) (since : D → ℕ → List ℕ → Type 0) (faults : D → ℕ) (old now next : View D) (entry total n : ℕ)
     → (IsTrue tells → map length old.payloads ≡ old.lengths) → entry < length old.lengths
-    → SoFar tells reads faults old now entry total
+    → SoFar tells reads images clock since faults old now entry total
     → n ≤ 1048576 → slice_get now.lengths entry ≡ Some (n + 13)
     → (IsTrue tells → (p : List ℕ) → slice_get now.payloads entry ≡ Some p → take 13 p ≡ entry_head n)
-    → IsKept tells reads faults now next
-    → SoFar tells reads faults old next (entry + 1) (total + n)
-so_far_more tells reads faults old now next entry total n match below so_far small at head kept =
+    → IsKept tells reads images clock since faults now next
+    → SoFar tells reads images clock since faults old next (entry + 1) (total + n)
+so_far_more tells reads images clock since faults old now next entry total n match below so_far small at head kept =
     let there : slice_get old.lengths entry ≡ Some (n + 13) = ap (λ (l : List ℕ). slice_get l entry) (sym so_far.kept.lengths) ∙ at in
     let grown : take (entry + 1) old.lengths ≡ take entry old.lengths ++ (n + 13) ∷ [] =
     take_more old.lengths entry 0 below ∙ ap (λ (m : ℕ). take entry old.lengths ++ m ∷ []) (get_or_from_slice_get old.lengths entry (n + 13) 0 there) in
     record {
-      kept = kept_on tells reads faults old now next so_far.kept kept;
+      kept = kept_on tells reads images clock since faults old now next so_far.kept kept;
       deposits = subst (λ (l : List ℕ). AreDeposits tells l (take (entry + 1) old.payloads) (total + n)) (sym grown)
           (one_more tells (take entry old.lengths) (take entry old.payloads) (take (entry + 1) old.payloads) total n so_far.deposits small
           (λ told. next_payload old.payloads old.lengths entry n (match told) below there
@@ -153,15 +156,15 @@ same_deposits tells lengths lengths' payloads payloads' bytes ls ps are = record
 }
 
 -- a journal whose entries were judged is an archive
-pub opened : {D : Type 0} (tells : Bool) (reads : D → List ℕ) (faults : D → ℕ) (old new : View D) (bytes : ℕ)
+pub opened : {D : Type 0} (tells : Bool) (reads : D → List ℕ) (images : D → List ℕ → Type 0) (clock : D → ℕ) (since : D → ℕ → List ℕ → Type 0) (faults : D → ℕ) (old new : View D) (bytes : ℕ)
     → AreDeposits tells old.lengths old.payloads bytes → length old.lengths ≤ 65536 → bytes ≤ 268435456
-    → (IsTrue tells → Reads (reads old.disk) old.payloads) → IsKept tells reads faults old new
+    → (IsTrue tells → Reads (reads old.disk) old.payloads) → IsKept tells reads images clock since faults old new
     → IsArchive tells (reads new.disk) new.lengths new.payloads new.broken bytes
-opened tells reads faults old new bytes are count most read kept =
+opened tells reads images clock since faults old new bytes are count most read kept =
     let deposits = same_deposits tells old.lengths new.lengths old.payloads new.payloads bytes kept.lengths kept.payloads are in
     let number : length new.lengths ≤ 65536 = subst (λ (l : List ℕ). length l ≤ 65536) (sym kept.lengths) count in
     let still : IsTrue tells → Reads (reads new.disk) new.payloads = λ told.
-    subst (λ (b : List ℕ). Reads b new.payloads) (sym (kept.same told)) (subst (λ (q : List (List ℕ)). Reads (reads old.disk) q) (sym (kept.payloads told)) (read told)) in
+    subst (λ (b : List ℕ). Reads b new.payloads) (sym (kept.quiet told).same) (subst (λ (q : List (List ℕ)). Reads (reads old.disk) q) (sym (kept.payloads told)) (read told)) in
     record {
       deposits = deposits;
       count = number;
@@ -170,11 +173,11 @@ opened tells reads faults old new bytes are count most read kept =
       left = λ told. inl (holds_of tells new.lengths new.payloads bytes (reads new.disk) deposits number most told (still told));
     }
 
-pub holds_before : {D : Type 0} (tells : Bool) (reads : D → List ℕ) (faults : D → ℕ) (old new : View D) (bytes : ℕ)
+pub holds_before : {D : Type 0} (tells : Bool) (reads : D → List ℕ) (images : D → List ℕ → Type 0) (clock : D → ℕ) (since : D → ℕ → List ℕ → Type 0) (faults : D → ℕ) (old new : View D) (bytes : ℕ)
     → AreDeposits tells old.lengths old.payloads bytes → length old.lengths ≤ 65536 → bytes ≤ 268435456
-    → (IsTrue tells → Reads (reads old.disk) old.payloads) → IsKept tells reads faults old new
+    → (IsTrue tells → Reads (reads old.disk) old.payloads) → IsKept tells reads images clock since faults old new
     → IsTrue tells → Holds (reads old.disk) (documents_in new.payloads)
-holds_before tells reads faults old new bytes are count most read kept told =
+holds_before tells reads images clock since faults old new bytes are count most read kept told =
     subst (λ (q : List (List ℕ)). Holds (reads old.disk) (documents_in q)) (sym (kept.payloads told))
     (holds_of tells old.lengths old.payloads bytes (reads old.disk) are count most told (read told))
 
@@ -186,3 +189,8 @@ err_so (Err e) P Q h f = f e h
 pub damaged_inside : (f : JournalFault) → reason f ≡ failed.Damaged → IsOutside f → ⊥
 damaged_inside f e (inl d) = let x : failed.Disk ≡ failed.Damaged = ap reason (sym d) ∙ e in cc
 damaged_inside f e (inr m) = let x : failed.Memory ≡ failed.Damaged = ap reason (sym m) ∙ e in cc
+
+-- bytes hold one list of documents
+pub one_history : (b : List ℕ) (ds es : List (List ℕ)) → Holds b ds → Holds b es → ds ≡ es
+one_history b ds es one two =
+    sym (documents_of_entries ds) ∙ (ap documents_in (one_list b (map entry_spelling ds) (map entry_spelling es) one.reads two.reads) ∙ documents_of_entries es)

@@ -1,5 +1,5 @@
 -- What is answered to an input, and how that was written.
-use Rattle.std.proofs.Common.{◌≡◌, ◌≢◌, ℕ, ◌≤◌, List, ◌++◌, length, take, Option, Some, None, Result, Ok, Err, refl, sym, ap, subst, ◌∙◌, arith}
+use Rattle.std.proofs.Common.{◌≡◌, ◌≢◌, ℕ, ◌≤◌, List, ◌++◌, length, Option, Some, None, Result, Ok, Err, sym, ap, subst, ◌∙◌, arith}
 use Rattle.std.specs.Prelude.{IfSome, IfOk}
 use Rattle.std.specs.Io.KnownBytes.{Consumes, IsAtEnd, Appends}
 use Rattle.std.proofs.lemmas.List.{append-nil}
@@ -14,8 +14,10 @@ use Rattle.session_text.specs.declared.shape.ShapeKind.{ShapeKind}
 use Rattle.session_text.specs.FaultTexts.{shape_line, policy_line}
 use Rattle.session_text.specs.Unread.{is_memory}
 use Rattle.session_text.specs.VerifyInput.{Verification, IsVerification, verify_first_fault}
-use Rattle.evidence_tool.specs.declared.verifying.Answered.{Answered}
-use Rattle.evidence_tool.specs.Verifying.{verdict_status, Answer, no_verification, no_policy, judged, IsVerified, unread, too_long, unmade, answered, cut_off}
+use Rattle.evidence_tool.specs.declared.verifying.Outcome.{Outcome}
+use Rattle.evidence_tool.specs.declared.status.Status.TheVariants.{BadInput}
+use Rattle.evidence_tool.specs.Status.{code_of}
+use Rattle.evidence_tool.specs.Verifying.{verdict_status, Answer, no_verification, no_policy, judged}
 
 -- a source that was read to its end had left these bytes
 pub left_is : (old new : Option (List ℕ)) (bytes text : List ℕ) → Consumes old new bytes → IsAtEnd new → text ≡ bytes → IfSome old (λ b. b ≡ text)
@@ -28,14 +30,14 @@ blamed bytes place kind fault is first =
     let P : ShapeFault → Type 0 = λ f. Unless (is_memory f) (verify_first_fault bytes ≡ Some f) in
     subst P is first
 
-pub shape_answered : {E : Type 0} (bytes : List ℕ) (place : ℕ) (kind : ShapeKind) (f : ShapeFault) (r : Result Answered E) → f ≡ At place kind → Unless (is_memory f) (verify_first_fault bytes ≡ Some f)
-    → IfOk r (λ a. (a.status ≡ 10) × (a.line.items ≡ shape_line place kind)) → IfOk r (λ a. Answer bytes a.status a.line.items)
-shape_answered bytes place kind f (Ok a) same fault is = no_verification is.0 place kind (blamed bytes place kind f same fault) is.1
+pub shape_answered : {E : Type 0} (bytes : List ℕ) (place : ℕ) (kind : ShapeKind) (f : ShapeFault) (r : Result Outcome E) → f ≡ At place kind → Unless (is_memory f) (verify_first_fault bytes ≡ Some f)
+    → IfOk r (λ a. (a.status ≡ BadInput) × (a.line.items ≡ shape_line place kind)) → IfOk r (λ a. Answer bytes (code_of a.status) a.line.items)
+shape_answered bytes place kind f (Ok a) same fault is = no_verification (ap code_of is.0) place kind (blamed bytes place kind f same fault) is.1
 shape_answered bytes place kind f (Err e) same fault is = tt
 
-pub policy_answered : {E : Type 0} (bytes : List ℕ) (v : Verification) (number : ℕ) (kind : PolicyKind) (r : Result Answered E) → IsVerification bytes v → first_fault v.policy ≡ Some (number, kind)
-    → IfOk r (λ a. (a.status ≡ 10) × (a.line.items ≡ policy_line number kind)) → IfOk r (λ a. Answer bytes a.status a.line.items)
-policy_answered bytes v number kind (Ok a) are fault is = no_policy is.0 v are number kind fault is.1
+pub policy_answered : {E : Type 0} (bytes : List ℕ) (v : Verification) (number : ℕ) (kind : PolicyKind) (r : Result Outcome E) → IsVerification bytes v → first_fault v.policy ≡ Some (number, kind)
+    → IfOk r (λ a. (a.status ≡ BadInput) × (a.line.items ≡ policy_line number kind)) → IfOk r (λ a. Answer bytes (code_of a.status) a.line.items)
+policy_answered bytes v number kind (Ok a) are fault is = no_policy (ap code_of is.0) v are number kind fault is.1
 policy_answered bytes v number kind (Err e) are fault is = tt
 
 pub same_line : (taken took : Option (List ℕ)) (a b : List ℕ) → a ≡ b → Appends taken took a → Appends taken took b
@@ -45,7 +47,7 @@ pub same_bytes : (a b : List ℕ) → a ≡ b → (n : ℕ) → length b ≤ n �
 same_bytes a b e n h = subst (λ (l : List ℕ). length l ≤ n) (sym e) h
 
 -- no answer has the status of words that are no command
-no_verdict : (verdict : Verdict) → verdict_status verdict ≢ 2
+no_verdict : (verdict : Verdict) → code_of (verdict_status verdict) ≢ 2
 no_verdict Valid e = omega arith
 no_verdict (Syntax place kind) e = omega arith
 no_verdict (BadStamp chain stamp check) e = omega arith

@@ -1,11 +1,15 @@
+pub mod Command
 pub mod Entries
 pub mod History
 pub mod Input
 pub mod Inside
 pub mod Replies
 pub mod Requests
+pub mod Run
 pub mod Served
 pub mod Session
+pub mod Status
+pub mod Stops
 pub mod Top
 pub mod Trial
 pub mod Verifying

@@ -1,11 +1,13 @@
 // The archive on its journal: each entry is a deposit of one group of one document.
-ghost use Rattle.std.specs.Prelude.{◌≡◌, ◌≤◌, ◌+◌, ◌<◌, false, List, ℕ, IsTrue, IfOk, IfErr, map, length, IfSome, IfNone, vec_len};
+ghost use Rattle.std.specs.Prelude.{◌≡◌, ◌≤◌, ◌+◌, ◌<◌, false, List, ℕ, IsTrue, IfOk, IfErr, map, length, IfSome, IfNone};
 ghost use Rattle.ev_world.specs.Causes.{Rose};
+ghost use Rattle.ev_world.specs.Disk.{Only, IsQuiet};
 ghost use Rattle.gate_journal.specs.Damage.{IsFormatted};
-ghost use Rattle.evidence_tool.specs.Requests.{asked, to_deposit, to_fetch, IsInRange};
+ghost use Rattle.evidence_tool.specs.Requests.{to_deposit, to_fetch, IsInRange};
+ghost use Rattle.evidence_tool.specs.Inside.{asked, HoldsOrOneMore, IsEntryFault, IsStep, reason};
 ghost use Rattle.evidence_tool.specs.Session.{Answers, IsPassed, HasRoom, place_of};
-ghost use Rattle.evidence_tool.specs.History.{Holds, HoldsOrOneMore, IsHistory};
-ghost use Rattle.evidence_tool.specs.Inside.{IsEntryFault, reason};
+ghost use Rattle.evidence_tool.specs.History.{Holds, IsHistory};
+ghost use Rattle.evidence_tool.specs.Stops.{begun_by, done_by};
 ghost use Rattle.gate_journal.specs.Journal.{Reads};
 ghost use Rattle.evidence_tool.specs.Entries.{entry_spelling};
 
@@ -13,10 +15,10 @@ use crate::entry::{HEAD_SIZE, write_entry};
 use crate::opening::total_of_entries;
 use crate::reply::{Full, Reply};
 use crate::request::Request;
-use der_values::Bytes;
+use der_values::{Bytes, zeros};
 use ev_world::Disk;
 use gate_journal::{Journal, JournalFault};
-use std::alloc::{AllocError, Global};
+use std::alloc::Global;
 use std::marker::Model;
 
 /// The most groups.
@@ -47,7 +49,7 @@ pub struct History<D: Disk> {
 }
 
 impl<D: Disk> Model for History<D> {
-    ghost use Rattle.evidence_tool.specs.History.{Archive, IsArchive, state_of};
+    ghost use Rattle.evidence_tool.specs.Inside.{Archive, IsArchive, state_of};
 
     ghost Value = { Archive D };
 
@@ -65,10 +67,11 @@ impl<D: Disk> History<D> {
         ensures holds { IfOk result (λ h. IsTrue D.tells → Holds (D.reads disk) h.state.documents) }
         ensures sizes { IfOk result (λ h. IsTrue D.tells → map length h.state.documents ≡ h.state.sizes) }
         ensures opened { IfOk result (λ h. h.state.closed ≡ false) }
-        ensures ok_same { IfOk result (λ h. IsTrue D.tells → D.reads h.disk ≡ D.reads disk) }
+        ensures durable { IfOk result (λ h. IsTrue D.tells → Only (D.reads disk) (D.images h.disk)) }
+        ensures quiet { IfOk result (λ h. IsTrue D.tells → IsQuiet D.reads D.images D.clock D.since disk h.disk) }
         ensures count { IfOk result (λ h. D.faults disk ≤ h.state.faults) }
 
-        ensures same { IfErr result (λ e. IsTrue D.tells → D.reads e.0 ≡ D.reads disk) }
+        ensures err_quiet { IfErr result (λ e. IsTrue D.tells → IsQuiet D.reads D.images D.clock D.since disk e.0) }
         ensures err_count { IfErr result (λ e. D.faults disk ≤ D.faults e.0) }
         ensures failed { IfErr result (λ e. e.1 ≡ HistoryFault.Disk → Rose (D.faults disk) (D.faults e.0)) }
         ensures unformatted { IfErr result (λ e. e.1 ≡ HistoryFault.NotFormatted → IsTrue D.tells → IsFormatted (D.reads disk) → ⊥) }
@@ -89,9 +92,9 @@ impl<D: Disk> History<D> {
         ensures holds { IfOk result (λ h. IsTrue D.tells → Holds (D.reads journal.disk) h.state.documents) }
         ensures sizes { IfOk result (λ h. IsTrue D.tells → map length h.state.documents ≡ h.state.sizes) }
         ensures opened { IfOk result (λ h. h.state.closed ≡ false) }
-        ensures ok_same { IfOk result (λ h. IsTrue D.tells → D.reads h.disk ≡ D.reads journal.disk) }
+        ensures quiet { IfOk result (λ h. IsTrue D.tells → IsQuiet D.reads D.images D.clock D.since journal.disk h.disk) }
         ensures count { IfOk result (λ h. D.faults journal.disk ≤ h.state.faults) }
-        ensures same { IfErr result (λ e. IsTrue D.tells → D.reads e.0 ≡ D.reads journal.disk) }
+        ensures err_quiet { IfErr result (λ e. IsTrue D.tells → IsQuiet D.reads D.images D.clock D.since journal.disk e.0) }
         ensures err_count { IfErr result (λ e. D.faults journal.disk ≤ D.faults e.0) }
         ensures answers { IfErr result (λ e. IsEntryFault e.1) }
         ensures failed { IfErr result (λ e. e.1 ≡ HistoryFault.Disk → Rose (D.faults journal.disk) (D.faults e.0)) }
@@ -114,7 +117,9 @@ impl<D: Disk> History<D> {
     /// Answers a request.
     pub fn answer(&mut self, alloc: Global, request: &Request) -> Reply
         requires { IsInRange (asked request.now) }
-        ensures { Answers D.tells self.old.state (asked request.now) result self.new.state }
+        ensures answers { Answers D.tells self.old.state (asked request.now) result self.new.state }
+        ensures stops { IsTrue D.tells → IsStep D.reads D.images D.clock D.since self.old.disk self.new.disk self.old.state.documents
+            (begun_by (asked request.now) result) (done_by (asked request.now) result) }
     {
         match request {
             Request::Deposit { document } => self.deposit(alloc, document),
@@ -125,7 +130,9 @@ impl<D: Disk> History<D> {
     /// Keeps a document as a group of its own.
     pub fn deposit(&mut self, alloc: Global, document: &[u8]) -> Reply
         requires { length document.now ≤ 1048576 }
-        ensures { Answers D.tells self.old.state (to_deposit document.now) result self.new.state }
+        ensures answers { Answers D.tells self.old.state (to_deposit document.now) result self.new.state }
+        ensures stops { IsTrue D.tells → IsStep D.reads D.images D.clock D.since self.old.disk self.new.disk self.old.state.documents
+            (begun_by (to_deposit document.now) result) (done_by (to_deposit document.now) result) }
     {
         if let Some(full) = self.limit_passed(document.len() as u64) {
             return Reply::Full(self.journal.frames(), full);
@@ -158,7 +165,9 @@ impl<D: Disk> History<D> {
         requires entry { entry.now ≡ entry_spelling document.now }
         requires small { length document.now ≤ 1048576 }
         requires room { HasRoom self.old.state (length document.now) }
-        ensures { Answers D.tells self.old.state (to_deposit document.now) result self.new.state }
+        ensures answers { Answers D.tells self.old.state (to_deposit document.now) result self.new.state }
+        ensures stops { IsTrue D.tells → IsStep D.reads D.images D.clock D.since self.old.disk self.new.disk self.old.state.documents
+            (begun_by (to_deposit document.now) result) (done_by (to_deposit document.now) result) }
     {
         let place = self.journal.frames();
         let Ok(()) = self.journal.reserve() else {
@@ -178,7 +187,9 @@ impl<D: Disk> History<D> {
 
     /// Hands out the document of a group.
     pub fn fetch(&mut self, alloc: Global, id: u32) -> Reply
-        ensures { Answers D.tells self.old.state (to_fetch id) result self.new.state }
+        ensures answers { Answers D.tells self.old.state (to_fetch id) result self.new.state }
+        ensures stops { IsTrue D.tells → IsStep D.reads D.images D.clock D.since self.old.disk self.new.disk self.old.state.documents
+            (begun_by (to_fetch id) result) (done_by (to_fetch id) result) }
     {
         let place = self.journal.frames();
         let entry = u64::from(id);
@@ -215,11 +226,4 @@ fn reason_of(fault: JournalFault) -> HistoryFault
         JournalFault::BadLength { .. } | JournalFault::Damaged { .. } => HistoryFault::Damaged,
         _ => HistoryFault::Memory,
     }
-}
-
-// The size is a parameter, so that no proof writes the list out.
-fn zeros(alloc: Global, size: usize) -> Result<Vec<u8>, AllocError>
-    ensures { IfOk result (λ v. vec_len v ≡ size) }
-{
-    vec![in alloc; 0; size]
 }

@@ -1,17 +1,16 @@
 // Whether each entry of a journal is a deposit of one group of one document, within the limits.
 ghost use Rattle.std.specs.Prelude.{◌≡◌, ◌≤◌, ◌+◌, ◌<◌, List, ℕ, length, map, take, slice_get, Some, IsTrue, IfOk, IfErr, IsErrOf};
 ghost use Rattle.ev_world.specs.Causes.{Rose};
+ghost use Rattle.gate_journal.specs.View.{IsKept};
 ghost use Rattle.evidence_tool.specs.Entries.{entry_head, entry_spelling};
-ghost use Rattle.evidence_tool.specs.History.{AreDeposits, IsHistory};
-ghost use Rattle.evidence_tool.specs.Inside.{IsKept, IsEntryFault};
+ghost use Rattle.evidence_tool.specs.History.{IsHistory};
+ghost use Rattle.evidence_tool.specs.Inside.{AreDeposits, IsEntryFault};
 
 use crate::entry::{HEAD_SIZE, is_entry_head};
 use crate::history::{HistoryFault, MOST_BYTES, MOST_GROUPS};
 use ev_world::Disk;
 use gate_journal::Journal;
-
-/// The most bytes of a document.
-const MOST_DOCUMENT: u64 = 1_048_576;
+use object_groups::LONGEST_DOCUMENT;
 
 /// The bytes of all documents.
 pub(crate) fn total_of_entries<D: Disk>(journal: &mut Journal<D>) -> Result<u64, HistoryFault>
@@ -22,7 +21,7 @@ pub(crate) fn total_of_entries<D: Disk>(journal: &mut Journal<D>) -> Result<u64,
     ensures other { IsErrOf result HistoryFault.Damaged → IsTrue D.tells → (ds : List (List ℕ)) → IsHistory ds → journal.old.payloads ≡ map entry_spelling ds → ⊥ }
     ensures answers { IfErr result IsEntryFault }
     ensures failed { IsErrOf result HistoryFault.Disk → Rose (D.faults journal.old.disk) (D.faults journal.new.disk) }
-    ensures kept { IsKept D.tells D.reads D.faults journal.old journal.new }
+    ensures kept { IsKept D.tells D.reads D.images D.clock D.since D.faults journal.old journal.new }
 {
     let count = journal.frames();
     if count > MOST_GROUPS {
@@ -50,10 +49,10 @@ fn document_size<D: Disk>(journal: &mut Journal<D>, entry: u64) -> Result<u64, H
         → slice_get journal.old.lengths entry ≡ Some (length p) → length d ≤ 1048576 → p ≡ entry_spelling d → ⊥ }
     ensures answers { IfErr result IsEntryFault }
     ensures failed { IsErrOf result HistoryFault.Disk → Rose (D.faults journal.old.disk) (D.faults journal.new.disk) }
-    ensures kept { IsKept D.tells D.reads D.faults journal.old journal.new }
+    ensures kept { IsKept D.tells D.reads D.images D.clock D.since D.faults journal.old journal.new }
 {
     let length = journal.length(entry);
-    if length < HEAD_SIZE || length > HEAD_SIZE + MOST_DOCUMENT {
+    if length < HEAD_SIZE || length > HEAD_SIZE + LONGEST_DOCUMENT as u64 {
         return Err(HistoryFault::Damaged);
     }
     let mut start = [0; 13];

@@ -1,13 +1,14 @@
 // One client's requests, answered in order.
-ghost use Rattle.std.specs.Prelude.{◌≡◌, ◌≤◌, map, IsTrue, vec_capacity};
-ghost use Rattle.std.specs.Io.KnownBytes.{Keeps};
+ghost use Rattle.std.specs.Prelude.{◌≡◌, ◌≤◌, ℕ, List, map, IsTrue, vec_capacity, Bool};
 ghost use Rattle.std.specs.List.{AllByRecursion};
-ghost use Rattle.std.specs.Prelude.{Bool};
 ghost use Rattle.ev_world.specs.Causes.{Rose};
-ghost use Rattle.evidence_tool.specs.Requests.{asked, IsInRange};
+ghost use Rattle.evidence_tool.specs.Requests.{IsInRange};
+ghost use Rattle.evidence_tool.specs.Inside.{asked, IsStep, IsRun};
 ghost use Rattle.evidence_tool.specs.Replies.{reply_text};
 ghost use Rattle.evidence_tool.specs.Session.{Answers};
+ghost use Rattle.evidence_tool.specs.History.{Holds};
 ghost use Rattle.evidence_tool.specs.Served.{AllAnswered, OneUnwritten};
+ghost use Rattle.evidence_tool.specs.Stops.{begun_by, done_by};
 
 use crate::history::History;
 use crate::output::write_all;
@@ -37,13 +38,14 @@ pub fn serve_all<D: Disk, K: Sink>(
     requests: &[Request],
     output: &mut K,
 ) -> Served
-    requires { AllByRecursion IsInRange (map asked requests.now) }
+    requires range { AllByRecursion IsInRange (map asked requests.now) }
+    requires settled { IsTrue D.tells → (c : List ℕ) → D.images history.old.disk c → Holds c history.old.state.documents }
 
     ensures done { (disk memory : Bool) → result ≡ Served.Done disk memory
-        → AllAnswered D.tells history.old.state (map asked requests.now) (K.taken output.old) (K.taken output.new) disk memory history.new.state }
+        → AllAnswered D.tells history.old.state (map asked requests.now) (K.taken output.old) (K.taken output.new) disk memory history.new.state (IsRun D.images D.clock D.since history.old.disk history.new.disk history.old.state.documents) }
 
     ensures unwritten { result ≡ Served.WriteFault
-        → OneUnwritten D.tells history.old.state (map asked requests.now) (K.taken output.old) (K.taken output.new) history.new.state }
+        → OneUnwritten D.tells history.old.state (map asked requests.now) (K.taken output.old) (K.taken output.new) history.new.state (IsRun D.images D.clock D.since history.old.disk history.new.disk history.old.state.documents) }
     ensures failed { result ≡ Served.WriteFault → Rose (K.faults output.old) (K.faults output.new) }
 
     ensures memory_history { result ≡ Served.Memory → history.new ≡ history.old }
@@ -79,6 +81,8 @@ fn answer_text<D: Disk>(
     requires range { IsInRange (asked request.now) }
     requires room { 4096 ≤ vec_capacity text.old }
     ensures answer { Answers D.tells history.old.state (asked request.now) result history.new.state }
+    ensures stops { IsTrue D.tells → IsStep D.reads D.images D.clock D.since history.old.disk history.new.disk history.old.state.documents
+        (begun_by (asked request.now) result) (done_by (asked request.now) result) }
     ensures later { history.old.state.faults ≤ history.new.state.faults }
     ensures text { text.new.items ≡ reply_text result }
     ensures room { 4096 ≤ vec_capacity text.new }
