@@ -1,6 +1,0 @@
-use Rattle.std.proofs.Common.{◌≡◌, ◌⊎◌, ◌↔◌, IsTrue}
-use Rattle.lms_verify.specs.Hss.{Verifies}
-use Rattle.lms_bench.proofs.repeat.all_verify.Given as goal
-
-abbrev pub invariant-loop-done : goal.invariant-loop-done
-invariant-loop-done l = IsTrue l.all ↔ ((l.done ≡ 0) ⊎ Verifies l.key l.message l.signature)

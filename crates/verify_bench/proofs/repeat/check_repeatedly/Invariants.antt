@@ -1,7 +1,0 @@
-use Rattle.std.proofs.Common.{◌≡◌}
-use Rattle.lms_verify.specs.Hss.{hss_verifies}
-use Rattle.verify_bench.specs.Repeated.{yes_among}
-use Rattle.verify_bench.proofs.repeat.check_repeatedly.Given as goal
-
-abbrev pub invariant-loop-done : goal.invariant-loop-done
-invariant-loop-done l = l.verified ≡ yes_among l.done (hss_verifies l.signed.key l.signed.message.items l.signed.signature.now)

@@ -1,6 +1,0 @@
-use Rattle.std.proofs.Common.{◌≡◌}
-use Rattle.verify_bench.specs.Repeated.{yes_among, is_valid}
-use Rattle.verify_bench.proofs.repeat.judge_repeatedly.Given as goal
-
-abbrev pub invariant-loop-done : goal.invariant-loop-done
-invariant-loop-done l = l.valid ≡ yes_among l.done (is_valid l.verdict)
