@@ -1,0 +1,5 @@
+pub mod Form
+pub mod Spelling
+pub mod Fault
+pub mod Places
+pub mod Inside
