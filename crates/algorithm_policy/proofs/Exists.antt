@@ -1,11 +1,15 @@
 -- A text without a fault is the text of a policy.
-use Rattle.std.proofs.Common.{◌≡◌, ℕ, ◌+◌, Bool, true, false, not, ◌&&◌, cond, nat_le, List, [], ◌∷◌, ◌++◌, length, map, Option, Some, None, refl, sym, ap, ◌∙◌, arith, append_assoc, append-nil}
+use Rattle.std.proofs.Common.{◌≡◌, ℕ, ◌+◌, Bool, true, false, not, ◌&&◌, cond, nat_le, List, [], ◌∷◌, ◌++◌, length, map, Option, Some, None, is_none, refl, sym, ap, ◌∙◌, arith, append_assoc, append-nil}
 use Rattle.std.specs.List.{list_all, list_any, join_with_byte}
 use Rattle.std.specs.Str.{bytes_eq}
 use Rattle.std.proofs.lemmas.Bool.{leb-false}
 use Rattle.std.proofs.lemmas.List.Splits.{join_with_byte-slice_split}
 use Rattle.std.proofs.lemmas.Slice.Eq.{bytes_eq-Decides}
 use Rattle.civil_moment.specs.declared.moment.Moment.{Moment}
+use Rattle.civil_moment.specs.declared.fault.TimeFault.{TimeFault}
+use Rattle.civil_moment.specs.Moment.{Text}
+use Rattle.civil_moment.specs.Fault.{first_fault as time_fault}
+use Rattle.civil_moment.proofs.Said.{said}
 use Rattle.hash_kit.specs.declared.algorithm.HashAlg.{HashAlg}
 use Rattle.hash_kit.specs.declared.algorithm.HashAlg.TheVariants.{Sha256, Sha384, Sha512}
 use Rattle.der_values.specs.Next.{is_empty}
@@ -22,7 +26,6 @@ use Rattle.algorithm_policy.specs.Change.{with_end, with_signer}
 use Rattle.algorithm_policy.specs.Inside.{IsPolicyLine, SaysLine, Adds, MayCome, next_fault, line_subject, subjects, names_from}
 use Rattle.algorithm_policy.proofs.PolicyLineLemmas.{Sound, says_signer, says_hash, says_authority}
 use Rattle.algorithm_policy.proofs.PlaceLemmas.{map_joined, hash_place, signer_place, adds_hash, adds_signer}
-use Rattle.algorithm_policy.proofs.TimeLemmas.{said}
 
 -- ---- what a line says
 
@@ -51,16 +54,25 @@ timed e h = at (is_time e) refl h
     at true is h = is
     at false is h = cc h
 
+-- a time says a moment
+moment_said : (word : List ℕ) → is_time word ≡ true → (moment : Moment) × Text word moment
+unfolding is_time
+moment_said word h = said word (none_is (time_fault word) h)
+  where
+    none_is : (o : Option TimeFault) → is_none o ≡ true → o ≡ None
+    none_is None h = refl
+    none_is (Some fault) h = cc
+
 found : (line : List ℕ) (form : Line) → form_of (words line) ≡ Some form → word_fault form ≡ None → Found line form
 found line (hash alg end) is sound =
     let ok = timed end sound in
-    let m = said end ok in
-    record { said = Hash alg m.moment; says = says_hash line alg end m.moment is m.says ok; subject = refl }
+    let m = moment_said end ok in
+    record { said = Hash alg m.0; says = says_hash line alg end m.0 is m.1 ok; subject = refl }
 found line (authority a b c d e) is sound =
     let s = sound_words a b c d e sound in
-    let m = said e s.end in
-    let one : Signer = record { name = a; sid = bytes_of b; key = bytes_of c; cert = bytes_of d; end = m.moment } in
-    record { said = Authority one; says = says_authority line a b c d e one is (says_signer a b c d e one s refl refl refl refl m.says); subject = refl }
+    let m = moment_said e s.end in
+    let one : Signer = record { name = a; sid = bytes_of b; key = bytes_of c; cert = bytes_of d; end = m.0 } in
+    record { said = Authority one; says = says_authority line a b c d e one is (says_signer a b c d e one s refl refl refl refl m.1); subject = refl }
 
 -- ---- a policy that takes it in
 

@@ -9,6 +9,5 @@ mod ReadLemmas
 mod TextLemmas
 mod WriteLemmas
 mod StandardFacts
-mod TimeLemmas
 mod Exists
 mod IdentifierLemmas

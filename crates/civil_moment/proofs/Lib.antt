@@ -7,3 +7,4 @@ mod FromDays
 mod Places
 mod Written
 pub mod Unique
+pub mod Said

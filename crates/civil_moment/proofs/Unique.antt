@@ -100,7 +100,7 @@ pub record Times (h m s : ℕ) : Type 0 where
   pub minute : m < 60
   pub second : s < 60
 
-time_tells : (h m s : ℕ) → is_time h m s ≡ true → Times h m s
+pub time_tells : (h m s : ℕ) → is_time h m s ≡ true → Times h m s
 time_tells h m s e = record { hour = grind (arith, nat_tests); minute = grind (arith, nat_tests); second = grind (arith, nat_tests) }
 
 same_civil : (xs ys : List ℕ) → Fourteen xs ys → is_civil xs ≡ true → is_civil ys ≡ true → seconds_of xs ≡ seconds_of ys → xs ≡ ys
@@ -174,10 +174,10 @@ zeros_digits : (n : ℕ) → are_digits (replicate n 0) ≡ true
 zeros_digits zero = refl
 zeros_digits (suc n) = zeros_digits n
 
-filled_length : (f : List ℕ) → length f ≤ 9 → length (f ++ replicate (9 - length f) 0) ≡ 9
+pub filled_length : (f : List ℕ) → length f ≤ 9 → length (f ++ replicate (9 - length f) 0) ≡ 9
 filled_length f few = length-append f (replicate (9 - length f) 0) ∙ omega (arith, length-replicate {A = ℕ} (9 - length f) 0)
 
-filled_digits : (f : List ℕ) → are_digits f ≡ true → are_digits (f ++ replicate (9 - length f) 0) ≡ true
+pub filled_digits : (f : List ℕ) → are_digits f ≡ true → are_digits (f ++ replicate (9 - length f) 0) ≡ true
 filled_digits f h = list_all-append (λ d. nat_lt d 10) f (replicate (9 - length f) 0) ∙ (λ i. h i && zeros_digits (9 - length f) i)
 
 same_fraction : (f g : List ℕ) → is_fraction f ≡ true → is_fraction g ≡ true → are_digits f ≡ true → are_digits g ≡ true → nanos_of f ≡ nanos_of g → f ≡ g
