@@ -1,16 +1,21 @@
--- A TSTInfo has one meaning: its table names the text of the time, which says one moment.
-use Rattle.std.proofs.Common.{◌≡◌, ℕ, List, Result, Ok, Err, ap, subst}
+-- A TSTInfo has one meaning, since the text of its time says one moment; bytes without a first fault are one.
+use Rattle.std.proofs.Common.{◌≡◌, ℕ, List, Option, Some, None, Result, Ok, Err, refl, ap, subst}
 use Rattle.std.specs.Prelude.{IfOk, IsOkAnd}
 use Rattle.civil_moment.specs.declared.moment.Moment.{Moment}
+use Rattle.civil_moment.specs.declared.fault.TimeFault.{TimeFault}
 use Rattle.civil_moment.specs.Moment.{Text}
+use Rattle.civil_moment.specs.Fault.{first_fault}
 use Rattle.civil_moment.proofs.FirstFault.{one_moment}
-use Rattle.der_values.specs.Grammar.{from_start}
+use Rattle.civil_moment.proofs.Said.{said}
+use Rattle.der_values.specs.Shape.{spell}
+use Rattle.der_values.specs.Grammar.{Valid, from_start}
+use Rattle.der_values.proofs.Accepted.{last_inside}
 use Rattle.der_values.proofs.Octets.{IsBytes}
-use Rattle.der_values.proofs.Meaning.{found_means, is_only, one_meaning}
+use Rattle.der_values.proofs.Meaning.{found_means, is_only, one_meaning, free_means}
 use Rattle.tst_info.specs.declared.fault.TstFault.{TstFault}
 use Rattle.tst_info.specs.declared.info.TstInfo.{TstInfo}
-use Rattle.tst_info.specs.Checks.{stamp_checks}
-use Rattle.tst_info.specs.Info.{Tst, TstParts, tst_shape, tst_of, tst_seen, with_text, ReadsTst}
+use Rattle.tst_info.specs.Checks.{time_answer, time_of, stamp_checks}
+use Rattle.tst_info.specs.Info.{Tst, TstParts, tst_contents_shape, tst_shape, tst_of, tst_seen, with_text, ReadsTst, tst_first_fault}
 use Rattle.tst_info.specs.Inside.{tst_at, FindsTst}
 
 -- the parts with this moment
@@ -53,3 +58,29 @@ tst_only bytes (Ok info) h t m =
     same_tst h.text m.text (tst_seen info) t h.said m.said (is_only stamp_checks tst_shape tt (λ p σ. tst_of p.0) (from_start bytes) (λ parts. parts) (Ok (with_text h.text (tst_seen info))) h.found (with_text m.text t) m.meant)
 tst_only bytes (Err e) h t m =
     absurd (is_only stamp_checks tst_shape tt (λ p σ. tst_of p.0) (from_start bytes) (λ parts. parts) (Err e) h (with_text m.text t) m.meant)
+
+-- ---- bytes without a first fault
+
+no_time_fault : (place : ℕ) (o : Option TimeFault) (τ : Unit {0}) → time_answer place o ≡ Ok τ → o ≡ None
+no_time_fault place None τ e = refl
+no_time_fault place (Some fault) τ e = absurd cc
+
+-- the time of valid parts says a moment
+time_said : (place : ℕ) (p : TstParts) (τ : Unit {0}) → Valid stamp_checks tst_contents_shape tt place p τ → (moment : Moment) × Text (tst_of p).time moment
+unfolding Valid spell time_of
+time_said place p τ v =
+    let text = (tst_of p).time in
+    said text (no_time_fault _ (first_fault text) _ v.2.2.2.2.1.header_passes)
+
+pub tst_without_fault : (bytes : List ℕ) → IsBytes bytes → tst_first_fault bytes ≡ None → (t : Tst Moment) × ReadsTst bytes t
+tst_without_fault bytes fits none =
+    let m = (free_means stamp_checks tst_shape tt (λ p σ. tst_of p.0) (from_start bytes) fits none).1 in
+    let contents = last_inside stamp_checks 48 tst_contents_shape tt 0 m.parts m.state m.valid in
+    let time = time_said contents.0 m.parts.0 m.state contents.1 in (
+      with_moment time.0 (tst_of m.parts.0),
+      record {
+        text = (tst_of m.parts.0).time;
+        said = time.1;
+        meant = record { parts = m.parts; state = m.state; valid = m.valid; spelled = m.spelled; named = refl };
+      },
+    )

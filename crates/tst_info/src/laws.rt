@@ -1,10 +1,10 @@
 //! Laws of the definitions that the crate's contracts cite. Each function has an empty body: its clause is the law.
 
-ghost use Rattle.std.specs.Prelude.{◌≡◌, ◌<◌, ◌≤◌, ◌^◌, ℕ, List, length, Option, IfSome};
+ghost use Rattle.std.specs.Prelude.{◌≡◌, ◌<◌, ◌≤◌, ◌^◌, ℕ, List, length, slice_index, Option, None, IfSome};
 ghost use Rattle.civil_moment.specs.declared.moment.Moment.{Moment};
-ghost use Rattle.tst_info.specs.Info.{Tst, ReadsTst, WritesTst, HasTstSpelling};
-ghost use Rattle.tst_info.specs.Request.{ToStamp, ReadsRequest, request_contents, request_text, HasRequestSpelling};
-ghost use Rattle.tst_info.specs.Response.{ReadsResponse, response_contents, response_text, IsToken, answer_to, Answers};
+ghost use Rattle.tst_info.specs.Info.{Tst, ReadsTst, tst_first_fault, WritesTst, HasTstSpelling};
+ghost use Rattle.tst_info.specs.Request.{ToStamp, ReadsRequest, request_first_fault, request_contents, request_text, HasRequestSpelling};
+ghost use Rattle.tst_info.specs.Response.{ReadsResponse, response_first_fault, response_contents, response_text, IsToken, answer_to, Answers};
 
 /// No bytes are two infos.
 pub fn no_bytes_are_two_infos()
@@ -19,6 +19,21 @@ pub fn no_bytes_are_two_requests()
 /// No bytes are responses with two tokens.
 pub fn no_bytes_are_two_responses()
     ensures { (bytes a b : List ℕ) → ReadsResponse bytes a → ReadsResponse bytes b → a ≡ b }
+{}
+
+/// Every string of bytes is an info or has a first fault.
+pub fn bytes_without_a_first_fault_are_an_info()
+    ensures { (bytes : List ℕ) → ((i : ℕ) → slice_index bytes i < 256) → tst_first_fault bytes ≡ None → (t : Tst Moment) × ReadsTst bytes t }
+{}
+
+/// Every string of bytes is a request or has a first fault.
+pub fn bytes_without_a_first_fault_are_a_request()
+    ensures { (bytes : List ℕ) → ((i : ℕ) → slice_index bytes i < 256) → request_first_fault bytes ≡ None → (q : ToStamp) × ReadsRequest bytes q }
+{}
+
+/// Every string of bytes is a response that grants a token or has a first fault.
+pub fn bytes_without_a_first_fault_are_a_response()
+    ensures { (bytes : List ℕ) → ((i : ℕ) → slice_index bytes i < 256) → response_first_fault bytes ≡ None → (token : List ℕ) × ReadsResponse bytes token }
 {}
 
 /// An info is written in one way.
