@@ -89,7 +89,7 @@ fn checked<'a>(
 }
 
 // The signed time-stamp that the bytes are.
-pub(crate) fn signed_in(bytes: &[u8]) -> Result<Signed<'_>, Check>
+fn signed_in(bytes: &[u8]) -> Result<Signed<'_>, Check>
     ensures signed { IfOk result (λ s. IsSigned bytes.now (signed_seen s)) }
     ensures fault { (policy : Content) → IfErr result (Fails policy bytes.now) }
     ensures apart { IfErr result NoMemory }
