@@ -7,4 +7,5 @@ pub mod Readable
 pub mod ValidParts
 pub mod SizeLemmas
 pub mod LaterValues
+pub mod Faults
 mod StandardFacts

@@ -1,8 +1,9 @@
 //! Laws of the definitions that the crate's contracts cite. Each function has an empty body: its clause is the law.
 
-ghost use Rattle.std.specs.Prelude.{◌≡◌, ◌<◌, ◌^◌, ℕ, List, length, take};
+ghost use Rattle.std.specs.Prelude.{◌≡◌, ◌≢◌, ◌<◌, ◌^◌, ℕ, List, length, slice_index, take, Some, None};
 ghost use Rattle.std.specs.List.{flat_map};
-ghost use Rattle.evidence_syntax.specs.Record.{EvidenceRecord, Spells};
+ghost use Rattle.evidence_syntax.specs.declared.fault.SyntaxFault.TheVariants.{Memory};
+ghost use Rattle.evidence_syntax.specs.Record.{EvidenceRecord, Spells, record_first_fault};
 ghost use Rattle.evidence_syntax.specs.Stamps.{Stamp, SpellsSequence};
 ghost use Rattle.evidence_syntax.specs.Text.{chain_text, sequence_spelling, record_contents, record_spelling};
 ghost use Rattle.evidence_syntax.specs.Valid.{IsSequence, IsRecord};
@@ -10,6 +11,17 @@ ghost use Rattle.evidence_syntax.specs.Valid.{IsSequence, IsRecord};
 /// No bytes spell two records.
 pub fn no_bytes_spell_two_records()
     ensures { (bytes : List ℕ) (a b : EvidenceRecord) → Spells bytes a → Spells bytes b → a ≡ b }
+{}
+
+/// Every string of bytes is a record or has a first fault.
+pub fn bytes_without_a_first_fault_are_a_record()
+    ensures { (bytes : List ℕ) → ((i : ℕ) → slice_index bytes i < 256) → record_first_fault bytes ≡ None
+        → (r : EvidenceRecord) × Spells bytes r }
+{}
+
+/// A first fault has a place: it is never want of memory.
+pub fn want_of_memory_is_no_first_fault()
+    ensures { (bytes : List ℕ) → record_first_fault bytes ≢ Some Memory }
 {}
 
 /// Bytes spell a record exactly where its parts are those that a record may have, and the bytes are their spelling.
