@@ -8,7 +8,7 @@ use Rattle.der_values.specs.Steps.{◌>>=◌, lift}
 use Rattle.der_values.specs.Next.{is_empty, finish_of, contents}
 use Rattle.der_values.specs.Typed.{integer_of, boolean_of, oid_of, is_one, version_of}
 use Rattle.der_values.specs.Shape.{Tags, Check, unchecked, is_integer, is_boolean, is_oid, checked, checked_whole, Shape, nothing_more, unread, required, optional, repeated, checkpoint, depending, Parts}
-use Rattle.der_values.specs.Reading.{header, optional_of, Reading, passes, at_header, at_end, body, body_optional, read_each, end_of, beside, read, first}
+use Rattle.der_values.specs.Reading.{header, optional_of, Reading, passes, at_header, at_end, body, body_optional, read_each, end_of, beside, read}
 use Rattle.der_values.specs.Grammar.{from_start}
 use Rattle.der_values.proofs.Octets.{IsBytes}
 use Rattle.der_values.proofs.Meaning.{free_means}
@@ -65,9 +65,6 @@ at_end_placed is_oid stamps v = tt
 at_end_placed (checked c) stamps v = tt
 at_end_placed (checked_whole c) stamps v = judged c stamps v
 
-beside_placed : {P Q : Type 0} (p : P) (r : Reading Q ℕ SyntaxFault) → IsPlaced r → IsPlaced (beside p r)
-beside_placed p r h = both_placed r _ h (λ y. tt)
-
 module _ {P : Type 0} where
   body_placed : (tags : Tags) (c : Check RecordCheck) (inner : ℕ → Input → Reading P ℕ SyntaxFault) → ((stamps : ℕ) (input : Input) → IsPlaced (inner stamps input))
       → (stamps : ℕ) (v : Item) → IsPlaced (body record_checks tags c inner stamps v)
@@ -88,23 +85,24 @@ module _ {P : Type 0} where
             both_placed (each stamps v.0) _ (placed stamps v.0) (λ x.
                 both_placed (read_each der tags each n x.1 v.1) _ (each_placed tags n x.1 v.1) (λ y. tt))))
 
+-- a part, and those that follow it
+both_parts : {P : Type 0} (next : Shape RecordCheck) → ((stamps : ℕ) (input : Input) → IsPlaced (read record_checks next stamps input))
+    → (after : Input) (r : Reading P ℕ SyntaxFault) → IsPlaced r → IsPlaced (r >>= λ x. beside x.0 (read record_checks next x.1 after))
+both_parts next placed after (Ok x) h = both_placed (read record_checks next x.1 after) _ (placed x.1 after) (λ y. tt)
+both_parts next placed after (Err e) h = h
+
 read_placed : (s : Shape RecordCheck) (stamps : ℕ) (input : Input) → IsPlaced (read record_checks s stamps input)
 unfolding read
 read_placed nothing_more stamps input = both_placed (lift der (finish_of input)) _ (lifted (finish_of input)) (λ u. tt)
 read_placed unread stamps input = tt
 read_placed (required tags c inner next) stamps input =
     both_placed (lift der (header tags input)) _ (lifted (header tags input)) (λ v.
-        both_placed (body record_checks tags c (read record_checks inner) stamps v.0) _ (body_placed tags c (read record_checks inner) (read_placed inner) stamps v.0) (λ x.
-            beside_placed x.0 (read record_checks next x.1 v.1) (read_placed next x.1 v.1)))
+        both_parts next (read_placed next) v.1 _ (body_placed tags c (read record_checks inner) (read_placed inner) stamps v.0))
 read_placed (optional tags c inner next) stamps input =
-    let each = body record_checks tags c (read record_checks inner) in
     both_placed (lift der (optional_of tags input)) _ (lifted (optional_of tags input)) (λ v.
-        both_placed (body_optional each stamps v.0) _ (optional_placed each (body_placed tags c (read record_checks inner) (read_placed inner)) stamps v.0) (λ x.
-            beside_placed x.0 (read record_checks next x.1 v.1) (read_placed next x.1 v.1)))
+        both_parts next (read_placed next) v.1 _ (optional_placed _ (body_placed tags c (read record_checks inner) (read_placed inner)) stamps v.0))
 read_placed (repeated tags c inner next) stamps input =
-    let each = body record_checks tags c (read record_checks inner) in
-    both_placed (read_each der tags each (length input.left) stamps input) _ (each_placed each (body_placed tags c (read record_checks inner) (read_placed inner)) tags (length input.left) stamps input) (λ x.
-        beside_placed x.0 (read record_checks next x.1 (end_of input)) (read_placed next x.1 (end_of input)))
+    both_parts next (read_placed next) (end_of input) _ (each_placed _ (body_placed tags c (read record_checks inner) (read_placed inner)) tags (length input.left) stamps input)
 read_placed (checkpoint c next) stamps input = read_placed next stamps input
 read_placed (depending c a b) stamps input = both_placed (read record_checks b stamps input) _ (read_placed b stamps input) (λ x. tt)
 

@@ -22,6 +22,15 @@ use der_values::Bytes;
 use evidence_syntax::{Chain, SyntaxFault, read_record};
 use std::alloc::{AllocError, Global};
 
+// What is asked of a record.
+#[derive(Drop)]
+struct Question<'d, 'p> {
+    documents: &'d [Bytes],
+    mode: Mode,
+    policy: &'p Policy,
+    moment: Moment,
+}
+
 /// The verdict on the bytes of an evidence record (RFC 4998, 4.3 and 5.3): the first fault in the order of the verdicts,
 /// or that the record holds, for 1 to 64 documents, under a policy and at a moment. An error is want of memory.
 pub fn verify(
@@ -40,24 +49,24 @@ pub fn verify(
     ensures only { (verdict : Verdict) → Verdicts policy.now documents.now mode moment bytes.now verdict
         → IfOk result (λ answered. answered ≡ verdict) }
 {
-    judge_bytes(alloc, bytes, documents, mode, policy, moment)
+    let question = Question {
+        documents,
+        mode,
+        policy,
+        moment,
+    };
+    judge_bytes(alloc, bytes, &question)
 }
 
-fn judge_bytes(
-    alloc: Global,
-    bytes: &[u8],
-    documents: &[Bytes],
-    mode: Mode,
-    policy: &Policy,
-    moment: Moment,
-) -> Result<Verdict, AllocError>
-    requires { length documents.now ≤ 64 }
-    ensures { IfOk result (Verdicts policy.now documents.now mode moment bytes.now) }
+fn judge_bytes(alloc: Global, bytes: &[u8], question: &Question<'_, '_>) -> Result<Verdict, AllocError>
+    requires { length question.now.documents.now ≤ 64 }
+    ensures { IfOk result (Verdicts question.now.policy.now question.now.documents.now
+        question.now.mode question.now.moment bytes.now) }
 {
     match read_record(alloc, bytes) {
         Ok(evidence) => {
             let chains = evidence.chains.as_slice();
-            judge_chains(alloc, chains, documents, mode, policy, moment)
+            judge_chains(alloc, chains, question)
         }
         Err(SyntaxFault::At { place, kind }) => Ok(Verdict::Syntax { place, kind }),
         Err(SyntaxFault::Memory) => Err(AllocError),
@@ -67,18 +76,16 @@ fn judge_bytes(
 fn judge_chains(
     alloc: Global,
     chains: &[Chain<'_>],
-    documents: &[Bytes],
-    mode: Mode,
-    policy: &Policy,
-    moment: Moment,
+    question: &Question<'_, '_>,
 ) -> Result<Verdict, AllocError>
-    requires few { length documents.now ≤ 64 }
+    requires few { length question.now.documents.now ≤ 64 }
     requires read { WereRead (chains_seen chains.now) }
-    ensures { IfOk result (Judges policy.now documents.now mode moment (places_of (chains_seen chains.now))) }
+    ensures { IfOk result (Judges question.now.policy.now question.now.documents.now
+        question.now.mode question.now.moment (places_of (chains_seen chains.now))) }
 {
     let places = places(alloc, chains)?;
-    match sound_stamps(alloc, places.as_slice(), policy) {
-        Ok(stamps) => judge_stamps(alloc, stamps.as_slice(), documents, mode, policy, moment),
+    match sound_stamps(alloc, places.as_slice(), question.policy) {
+        Ok(stamps) => judge_stamps(alloc, stamps.as_slice(), question),
         Err(StampFault::Bad(verdict)) => Ok(verdict),
         Err(StampFault::Memory) => Err(AllocError),
     }
@@ -88,16 +95,20 @@ fn judge_chains(
 fn judge_stamps(
     alloc: Global,
     stamps: &[Checked<'_, '_>],
-    documents: &[Bytes],
-    mode: Mode,
-    policy: &Policy,
-    moment: Moment,
+    question: &Question<'_, '_>,
 ) -> Result<Verdict, AllocError>
-    requires few { length documents.now ≤ 64 }
+    requires few { length question.now.documents.now ≤ 64 }
     requires go_on { GoOn [] (places_seen stamps.now) }
     ensures { IfOk result (λ verdict. verdict
-        ≡ verdict_of policy.now documents.now mode moment (map checked_seen stamps.now)) }
+        ≡ verdict_of question.now.policy.now question.now.documents.now
+            question.now.mode question.now.moment (map checked_seen stamps.now)) }
 {
+    let Question {
+        documents,
+        mode,
+        policy,
+        moment,
+    } = *question;
     if let Some(verdict) = mixed_fault(stamps) {
         return Ok(verdict);
     }

@@ -1,6 +1,6 @@
 //! Laws of the definitions that the crate's contracts cite. Each function has an empty body: its clause is the law.
 
-ghost use Rattle.std.specs.Prelude.{◌≡◌, ◌↔◌, ℕ, List, IsTrue, Some, None};
+ghost use Rattle.std.specs.Prelude.{◌≡◌, ◌↔◌, ◌<◌, ℕ, List, slice_index, IsTrue, Some, None};
 ghost use Rattle.civil_moment.specs.declared.moment.Moment.{Moment};
 ghost use Rattle.algorithm_policy.specs.Content.{Content};
 ghost use Rattle.evidence_syntax.specs.Record.{EvidenceRecord, Spells};
@@ -14,6 +14,12 @@ ghost use Rattle.evidence_verify.specs.Covers.{Covers, covers};
 ghost use Rattle.evidence_verify.specs.Marks.{Mark, AreInTime, IsFirstLapse, first_lapse};
 ghost use Rattle.evidence_verify.specs.Verdict.{Verdicts};
 ghost use Rattle.evidence_verify.specs.Holds.{Holds, HoldsWhole};
+
+/// Every string of bytes has a verdict.
+pub fn every_string_of_bytes_has_a_verdict()
+    ensures { (policy : Content) (documents : List (List ℕ)) (mode : Mode) (moment : Moment) (bytes : List ℕ)
+        → ((i : ℕ) → slice_index bytes i < 256) → (verdict : Verdict) × Verdicts policy documents mode moment bytes verdict }
+{}
 
 /// Bytes have one verdict.
 pub fn bytes_have_one_verdict()
