@@ -70,8 +70,8 @@ module _ {P : Type 0} where
       → (stamps : ℕ) (v : Item) → IsPlaced (body record_checks tags c inner stamps v)
   body_placed tags c inner h stamps v =
       both_placed (at_header record_checks c stamps v) _ (at_header_placed c stamps v) (λ n.
-          both_placed (inner n (contents v)) _ (h n (contents v)) (λ x.
-              both_placed (at_end record_checks c x.1 v) _ (at_end_placed c x.1 v) (λ m. tt)))
+      both_placed (inner n (contents v)) _ (h n (contents v)) (λ x.
+      both_placed (at_end record_checks c x.1 v) _ (at_end_placed c x.1 v) (λ m. tt)))
 
   module _ (each : ℕ → Item → Reading P ℕ SyntaxFault) (placed : (stamps : ℕ) (v : Item) → IsPlaced (each stamps v)) where
     optional_placed : (stamps : ℕ) (o : Option Item) → IsPlaced (body_optional each stamps o)
@@ -82,8 +82,8 @@ module _ {P : Type 0} where
     each_placed tags zero stamps input = tt
     each_placed tags (suc n) stamps input =
         either_placed (is_empty input.left) _ _ tt (both_placed (lift der (header tags input)) _ (lifted (header tags input)) (λ v.
-            both_placed (each stamps v.0) _ (placed stamps v.0) (λ x.
-                both_placed (read_each der tags each n x.1 v.1) _ (each_placed tags n x.1 v.1) (λ y. tt))))
+        both_placed (each stamps v.0) _ (placed stamps v.0) (λ x.
+        both_placed (read_each der tags each n x.1 v.1) _ (each_placed tags n x.1 v.1) (λ y. tt))))
 
 -- a part, and those that follow it
 both_parts : {P : Type 0} (next : Shape RecordCheck) → ((stamps : ℕ) (input : Input) → IsPlaced (read record_checks next stamps input))
@@ -97,10 +97,10 @@ read_placed nothing_more stamps input = both_placed (lift der (finish_of input))
 read_placed unread stamps input = tt
 read_placed (required tags c inner next) stamps input =
     both_placed (lift der (header tags input)) _ (lifted (header tags input)) (λ v.
-        both_parts next (read_placed next) v.1 _ (body_placed tags c (read record_checks inner) (read_placed inner) stamps v.0))
+    both_parts next (read_placed next) v.1 _ (body_placed tags c (read record_checks inner) (read_placed inner) stamps v.0))
 read_placed (optional tags c inner next) stamps input =
     both_placed (lift der (optional_of tags input)) _ (lifted (optional_of tags input)) (λ v.
-        both_parts next (read_placed next) v.1 _ (optional_placed _ (body_placed tags c (read record_checks inner) (read_placed inner)) stamps v.0))
+    both_parts next (read_placed next) v.1 _ (optional_placed _ (body_placed tags c (read record_checks inner) (read_placed inner)) stamps v.0))
 read_placed (repeated tags c inner next) stamps input =
     both_parts next (read_placed next) (end_of input) _ (each_placed _ (body_placed tags c (read record_checks inner) (read_placed inner)) tags (length input.left) stamps input)
 read_placed (checkpoint c next) stamps input = read_placed next stamps input

@@ -1,5 +1,5 @@
 -- The tokens of a record are parts of its bytes, so their bytes are bytes.
-use Rattle.std.proofs.Common.{◌≡◌, ℕ, ◌+◌, List, [], ◌∷◌, ◌++◌, length, refl, subst, take_at, drop_at}
+use Rattle.std.proofs.Common.{ℕ, ◌+◌, List, [], ◌∷◌, ◌++◌, length, refl, subst, take_at, drop_at}
 use Rattle.std.specs.List.{AllByRecursion, flat_map}
 use Rattle.der_values.specs.Value.{length_octets, value, bytes_or_none}
 use Rattle.der_values.proofs.Octets.{IsBytes, IsBytes-take, IsBytes-drop, IsBytes-rest}

@@ -2,23 +2,15 @@
 use Rattle.std.specs.Prelude.{◌==◌, Bool, true, false, ◌&&◌, List, [], ◌∷◌, Option, Some, None, if◌then◌else◌}
 use Rattle.der_values.specs.Algorithm.{Name}
 use Rattle.hash_kit.specs.declared.algorithm.HashAlg.{HashAlg}
-use Rattle.hash_kit.specs.declared.algorithm.HashAlg.TheVariants.{Sha256, Sha384, Sha512}
+use Rattle.hash_kit.specs.Algorithm.{place_of}
 use Rattle.cms_signed.specs.Names.{known_hash}
 use Rattle.evidence_verify.specs.declared.verdict.Verdict.{Verdict}
 use Rattle.evidence_verify.specs.declared.verdict.Verdict.TheVariants.{MixedHash}
 use Rattle.evidence_verify.specs.Stamps.{Checked}
 
--- they are one hash algorithm
+-- they are one hash algorithm: they have one place among all
 abbrev pub is_same : HashAlg → HashAlg → Bool
-is_same Sha256 Sha256 = true
-is_same Sha256 Sha384 = false
-is_same Sha256 Sha512 = false
-is_same Sha384 Sha256 = false
-is_same Sha384 Sha384 = true
-is_same Sha384 Sha512 = false
-is_same Sha512 Sha256 = false
-is_same Sha512 Sha384 = false
-is_same Sha512 Sha512 = true
+is_same alg other = place_of alg == place_of other
 
 -- the algorithm is there, and this one
 abbrev pub is_hash : HashAlg → Option HashAlg → Bool

@@ -2,7 +2,7 @@
 ghost use Rattle.std.specs.Prelude.{◌≡◌, map};
 ghost use Rattle.std.specs.Option.{option_map};
 ghost use Rattle.der_values.specs.Algorithm.{name_seen};
-ghost use Rattle.evidence_verify.specs.Hashes.{is_same, is_hash, is_named, chain_hash, has_one_hash, mixed_after, mixed_fault};
+ghost use Rattle.evidence_verify.specs.Hashes.{is_hash, is_named, chain_hash, has_one_hash, mixed_after, mixed_fault};
 ghost use Rattle.evidence_verify.specs.Inside.{checked_seen};
 
 use crate::stamps::Checked;
@@ -52,7 +52,7 @@ fn has_one_hash(so_far: HashAlg, stamp: &Checked<'_, '_>) -> bool
     ensures { result ≡ has_one_hash so_far (checked_seen stamp.now) }
 {
     is_named(stamp.says.alg, &stamp.place.ats.algorithm)
-        && is_same(stamp.says.alg, chain_hash(so_far, stamp))
+        && stamp.says.alg == chain_hash(so_far, stamp)
 }
 
 // Whether the archive time-stamp names no other hash.
@@ -69,18 +69,7 @@ fn is_hash(alg: HashAlg, other: Option<HashAlg>) -> bool
     ensures { result ≡ is_hash alg other }
 {
     match other {
-        Some(other) => is_same(alg, other),
+        Some(other) => alg == other,
         None => false,
     }
-}
-
-fn is_same(alg: HashAlg, other: HashAlg) -> bool
-    ensures { result ≡ is_same alg other }
-{
-    matches!(
-        (alg, other),
-        (HashAlg::Sha256, HashAlg::Sha256)
-            | (HashAlg::Sha384, HashAlg::Sha384)
-            | (HashAlg::Sha512, HashAlg::Sha512)
-    )
 }

@@ -58,7 +58,11 @@ pub fn verify(
     judge_bytes(alloc, bytes, &question)
 }
 
-fn judge_bytes(alloc: Global, bytes: &[u8], question: &Question<'_, '_>) -> Result<Verdict, AllocError>
+fn judge_bytes(
+    alloc: Global,
+    bytes: &[u8],
+    question: &Question<'_, '_>,
+) -> Result<Verdict, AllocError>
     requires { length question.now.documents.now ≤ 64 }
     ensures { IfOk result (Verdicts question.now.policy.now question.now.documents.now
         question.now.mode question.now.moment bytes.now) }
@@ -101,7 +105,7 @@ fn judge_stamps(
     requires go_on { GoOn [] (places_seen stamps.now) }
     ensures { IfOk result (λ verdict. verdict
         ≡ verdict_of question.now.policy.now question.now.documents.now
-            question.now.mode question.now.moment (map checked_seen stamps.now)) }
+        question.now.mode question.now.moment (map checked_seen stamps.now)) }
 {
     let Question {
         documents,

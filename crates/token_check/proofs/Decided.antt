@@ -10,7 +10,7 @@ use Rattle.hash_kit.specs.declared.algorithm.HashAlg.TheVariants.{Sha256}
 use Rattle.hash_kit.specs.Digest.{digest_of}
 use Rattle.lms_verify.specs.Hss.{hss_verifies}
 use Rattle.tst_info.specs.declared.fault.TstFault.{TstFault}
-use Rattle.tst_info.specs.Info.{Tst, ReadsTst, tst_first_fault}
+use Rattle.tst_info.specs.Info.{Tst, tst_first_fault}
 use Rattle.tst_info.proofs.InfoLemmas.{tst_without_fault}
 use Rattle.cms_signed.specs.declared.fault.CmsFault.{CmsFault}
 use Rattle.cms_signed.specs.Names.{known_hash}
