@@ -17,7 +17,7 @@ use Rattle.evidence_verify.specs.declared.verdict.Verdict.{Verdict}
 use Rattle.evidence_verify.specs.declared.verdict.Verdict.TheVariants.{Syntax, BadStamp}
 use Rattle.evidence_verify.specs.Stamps.{Place, places_of, Checked, AreSound, IsFirstBad}
 use Rattle.evidence_verify.specs.Verdict.{verdict_of, Judges, Verdicts}
-use Rattle.evidence_verify.proofs.Tokens.{TokenFits, tokens_fit}
+use Rattle.evidence_verify.proofs.TokenBytes.{TokenFits, tokens_fit}
 
 module _ (policy : Content) where
   -- ---- the tokens are sound, or one is the first that is not

@@ -6,7 +6,7 @@ pub mod Firsts
 pub mod Once
 pub mod Covered
 pub mod Holding
-pub mod Tokens
+pub mod TokenBytes
 pub mod Exists
 mod StandardFacts
 pub mod Lapsing

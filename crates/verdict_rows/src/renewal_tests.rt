@@ -4,7 +4,8 @@ use crate::policies::{Terms, USUAL};
 use crate::records::{StampRow, sequence};
 use crate::rows::{MEMBER, Row};
 use crate::tests::{
-    EARLY_AT_SECOND, EARLY_BEHIND_SECOND, FIRST_STAMP, LATE_FOR_LONG, OTHER, SECOND_STAMP, SHA256_AT_SECOND, SHA256_AT_THIRD, TWO, assert_each,
+    EARLY_AT_SECOND, EARLY_BEHIND_SECOND, FIRST_STAMP, LATE_FOR_LONG, OTHER, SECOND_STAMP,
+    SHA256_AT_SECOND, SHA256_AT_THIRD, TWO, assert_each,
 };
 use crate::tokens::{FIRST, Made, SECOND, THIRD, authority, pair};
 use crate::values::{ascending, later_value, root, sha256, sha512};

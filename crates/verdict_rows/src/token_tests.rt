@@ -4,7 +4,8 @@ use crate::policies::{LATE_CERTIFICATE, Terms, USUAL, policy};
 use crate::records::{StampRow, record};
 use crate::rows::{MEMBER, Row};
 use crate::tests::{
-    FIRST_STAMP, IN_A_CHAIN, IN_TWO_CHAINS, MISNAMED, NOTHING, PLAIN, SECOND_STAMP, assert_each, assert_verdict, of_abc, padded, turned,
+    FIRST_STAMP, IN_A_CHAIN, IN_TWO_CHAINS, MISNAMED, NOTHING, PLAIN, SECOND_STAMP, assert_each,
+    assert_verdict, of_abc, padded, turned,
 };
 use crate::tokens::{FIRST, Made, authority};
 use crate::values::sha256;
