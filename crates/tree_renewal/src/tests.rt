@@ -3,7 +3,7 @@ ghost use Rattle.std.specs.Prelude.{◌<◌, length, IfOk};
 
 use crate::{lists_of, renewed_values, seal_leaf};
 use der_values::{Bytes, Items};
-use evidence_syntax::{Ats, Chain};
+use evidence_syntax::{Ats, Chain, sequence_size};
 use hash_kit::{HashAlg, HashValue, digest};
 use object_groups::Group;
 use std::alloc::{AllocError, Global};
@@ -48,6 +48,24 @@ fn the_leaf_of_a_group_is_the_node_of_its_digests(rt: HostRuntime) -> Result<(),
     Ok(())
 }
 
+fn only(values: &[HashValue]) -> Result<HashValue, Fail> {
+    match values {
+        [value] => Ok(*value),
+        _ => Err(Fail::from("there is one document")),
+    }
+}
+
+// The value of the one document in the chain after these, whose sequence is short enough to be written.
+fn value(alloc: Global, group: &Group, older: &[Chain<'_>]) -> Result<HashValue, Fail> {
+    match sequence_size(older) {
+        Some(_size) => {
+            let values = renewed_values(alloc, HashAlg::Sha256, group, older)?;
+            only(values.as_slice())
+        }
+        None => Err(Fail::from("the sequence is too long")),
+    }
+}
+
 #[test]
 fn a_later_chain_covers_the_chains_before_it(rt: HostRuntime) -> Result<(), Fail> {
     let alloc = rt.alloc();
@@ -63,13 +81,9 @@ fn a_later_chain_covers_the_chains_before_it(rt: HostRuntime) -> Result<(), Fail
         stamps: Items::from_vec(stamps),
     })?;
     let group = group(alloc, b"abc", None)?;
-    let values = renewed_values(alloc, HashAlg::Sha256, &group, older.as_slice())?;
-    assert_eq!(&rt; values.as_slice().len(), 1);
-    assert_eq!(&rt; values.as_slice()[0].bytes(), &LATER[..]);
-    let first = renewed_values(alloc, HashAlg::Sha256, &group, &[])?;
-    assert_eq!(&rt;
-        first.as_slice()[0].bytes(),
-        digest(HashAlg::Sha256, b"abc").bytes()
-    );
+    let later = value(alloc, &group, older.as_slice())?;
+    assert_eq!(&rt; later.bytes(), &LATER[..]);
+    let first = value(alloc, &group, &[])?;
+    assert_eq!(&rt; first.bytes(), digest(HashAlg::Sha256, b"abc").bytes());
     Ok(())
 }
