@@ -1,0 +1,57 @@
+use Rattle.std.proofs.Common.{arith, Option, None, ◌<◌, ◌≤◌, ◌+◌, ◌++◌, ◌∷◌, [], map, refl, sym, ap, subst, ◌∙◌}
+use Rattle.std.proofs.lemmas.List.{map-append}
+use Rattle.archive_chain.specs.Kept.{cohort_of, groups_of}
+use Rattle.archive_chain.specs.declared.time_stamp.TimeStamp.{TimeStamp}
+use Rattle.archive_chain.specs.Held.{Held}
+use Rattle.archive_chain.specs.InsideTable.{leaves_in, rows_seen}
+use Rattle.archive_chain.proofs.Walking.{sealed_length}
+use Rattle.archive_chain.proofs.Listing.{listed_as}
+use Rattle.archive_chain.proofs.Passing.{passed_sealed, passed_length, passed_table}
+use Rattle.archive_chain.specs.Rules.{most_groups, most_documents, most_bytes}
+use Rattle.archive_chain.proofs.Saying.{said_more}
+use Rattle.archive_chain.proofs.archive.Archive.add_deposit.Goals as goal
+
+pub invariant_of-self : goal.invariant_of-self
+invariant_of-self c =
+    let stamps = c.put.ensures.items ∙ ap (λ (o : Option TimeStamp). c.self.inside.stamps.items ++ o ∷ []) c.none.ensures in
+    let many = sealed_length (rows_seen c.self.inside.stamps.items c.self.inside.rows.items) 0 c.self.inside.firsts.items in
+    let few = subst (λ (h : Held). groups_of h.kept + c.args.counts.groups ≤ most_groups) (sym c.self.view_is) c.requires.fits.few_groups in (
+      passed_table c.self.inside.stamps.items c.self.inside.rows.items c.self.inside.firsts.items c.self.inside.pending c.self.invariant.0 c.put.new.items.items stamps (c.self.inside.pending + c.args.counts.groups) (omega (arith, few, many)),
+      (let old = c.self.invariant.1 in
+          let os = old.stamps in let or = old.rows in
+          let p = c.put.ensures.len in let pr = c.put.ensures.room in
+          let s : 0 < c.self.inside.spare_stamps = subst (λ (h : Held). 0 < h.room.stamps) (sym c.self.view_is) c.requires.spare.stamps in
+          record { stamps = omega (arith, os, p, pr, s); rows = omega (arith, or, s); groups = old.groups }),
+      listed_as _ _ _ _ c.self.inside.names.items c.self.inside.names.items c.self.inside.live.items c.self.inside.live.items c.self.invariant.2 refl
+          (ap (map cohort_of) (passed_sealed c.self.inside.stamps.items c.self.inside.rows.items c.self.inside.firsts.items c.self.inside.pending c.self.invariant.0 c.put.new.items.items stamps)) refl refl,
+      (let old = c.self.invariant.3 in
+          let on = old.names in let ol = old.live in
+          record { names = omega (arith, on); live = omega (arith, ol) }),
+      said_more c.self.inside.policy c.self.inside.stamps.items c.put.new.items.items None stamps c.self.invariant.4 tt,
+      record {
+        few = subst (λ (h : Held). h.kept.documents + c.args.counts.documents ≤ most_documents) (sym c.self.view_is) c.requires.fits.few_documents;
+        short = subst (λ (h : Held). h.kept.bytes + c.args.counts.bytes ≤ most_bytes) (sym c.self.view_is) c.requires.fits.few_bytes;
+      },
+    )
+
+pub returns : goal.returns
+returns c = λ groups counted.
+    let stamps = c.put.ensures.items ∙ ap (λ (o : Option TimeStamp). c.self.inside.stamps.items ++ o ∷ []) c.none.ensures in
+    let one = passed_length c.self.inside.stamps.items c.self.inside.rows.items c.self.inside.firsts.items c.self.inside.pending c.self.invariant.0 c.put.new.items.items stamps in
+    let sealed = passed_sealed c.self.inside.stamps.items c.self.inside.rows.items c.self.inside.firsts.items c.self.inside.pending c.self.invariant.0 c.put.new.items.items stamps in
+    let trees = ap (map leaves_in) stamps ∙ map-append leaves_in c.self.inside.stamps.items (None ∷ []) in
+    let g = sym counted.groups_are in
+    let d = sym counted.documents_are in
+    let b = sym counted.bytes_are in
+    rw (← c.self.view_is)
+    (record {
+      kept = (λ i. record {
+        entries = one i;
+        documents = c.self.inside.documents + d i;
+        bytes = c.self.inside.bytes + b i;
+        sealed = sealed i;
+        pending = c.self.inside.pending + g i;
+      });
+      trees = trees;
+      policy = refl;
+    })
