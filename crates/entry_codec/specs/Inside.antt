@@ -1,5 +1,5 @@
 -- What private functions say of each other.
-use Rattle.std.specs.Prelude.{◌≡◌, ℕ, ◌+◌, ◌*◌, ◌≤◌, List, [], ◌∷◌, ◌++◌, length, map, take, drop, sum, None, Ok}
+use Rattle.std.specs.Prelude.{◌≡◌, ℕ, ◌+◌, ◌*◌, ◌≤◌, List, [], ◌∷◌, ◌++◌, length, map, sum, None, Ok}
 use Rattle.std.specs.List.{AllByRecursion}
 use Rattle.object_groups.specs.Groups.{IsGroup, bytes_in, most_documents}
 use Rattle.entry_codec.specs.declared.entry.Entry.{Entry}
@@ -11,6 +11,7 @@ use Rattle.entry_codec.specs.declared.places.Place.{Place}
 use Rattle.entry_codec.specs.Form.{Form, Unread, Reading, reads, nothing_more}
 use Rattle.entry_codec.specs.Fault.{entry_form, documents_form, group_form}
 use Rattle.entry_codec.specs.Places.{document_places}
+pub use Rattle.entry_codec.specs.Places.{bytes_at, grouped}
 
 -- a reading of what is left
 abbrev pub read_at : {A : Type 0} → Form A → Unread → Reading A
@@ -57,15 +58,6 @@ pub record TakesGroup (room : ℕ) (before after : Unread) (counts counted : Lis
   pub place_is : after.place ≡ before.place + 4 + 4 * length group + bytes_in group
 
 -- ---- groups at their places
-
--- the bytes at a place
-abbrev pub bytes_at : List ℕ → Place → List ℕ
-bytes_at payload p = take p.size (drop p.from payload)
-
--- documents, cut into groups of so many
-abbrev pub grouped : List ℕ → List (List ℕ) → List (List (List ℕ))
-grouped [] documents = []
-grouped (n ∷ counts) documents = take n documents ∷ grouped counts (drop n documents)
 
 -- the place lies within so many bytes
 abbrev pub IsWithin : ℕ → Place → Type 0

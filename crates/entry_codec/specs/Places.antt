@@ -1,5 +1,5 @@
 -- Where the documents of a deposit lie in its payload.
-use Rattle.std.specs.Prelude.{◌≡◌, ℕ, ◌+◌, ◌≤◌, List, [], ◌∷◌, ◌++◌, length, map, sum_by, Option, Some, None}
+use Rattle.std.specs.Prelude.{◌≡◌, ℕ, ◌+◌, ◌≤◌, List, [], ◌∷◌, ◌++◌, length, map, take, drop, sum_by, Option, Some, None}
 use Rattle.object_groups.specs.Groups.{bytes_in}
 use Rattle.entry_codec.specs.declared.entry.Entry.TheVariants.{Deposit}
 use Rattle.entry_codec.specs.declared.places.Place.{Place}
@@ -15,6 +15,15 @@ document_places at (d ∷ documents) = record { from = at + 4; size = length d }
 abbrev pub group_places : ℕ → List (List (List ℕ)) → List Place
 group_places at [] = []
 group_places at (g ∷ groups) = document_places (at + 4) g ++ group_places (at + length (group_spelling g)) groups
+
+-- the bytes at a place
+abbrev pub bytes_at : List ℕ → Place → List ℕ
+bytes_at payload p = take p.size (drop p.from payload)
+
+-- documents, cut into groups of so many
+abbrev pub grouped : List ℕ → List (List ℕ) → List (List (List ℕ))
+grouped [] documents = []
+grouped (n ∷ counts) documents = take n documents ∷ grouped counts (drop n documents)
 
 -- These groups lie so in the payload of their deposit: behind its kind and the number of the groups.
 pub record LieAt (groups : List (List (List ℕ))) (p : DepositPlaces) : Type 0 where
