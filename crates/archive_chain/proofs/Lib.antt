@@ -19,10 +19,10 @@ mod Renewing
 mod Places
 mod Reading
 pub mod Paths
-mod Sizes
+pub mod Sizes
 mod Peaks
 mod Tops
-mod Saying
+pub mod Saying
 mod Passing
 mod Committing
 mod Listing

@@ -1,9 +1,9 @@
 -- The loops over the rows of a group: the first entry from a number on, and what its time-stamps say.
-use Rattle.std.proofs.Common.{◌≡◌, ℕ, zero, suc, ◌+◌, ◌<◌, Bool, true, false, List, [], ◌∷◌, ◌++◌, length, map, drop, Option, Some, None, refl, sym, ap, subst, ◌∙◌, append_assoc, append-nil}
+use Rattle.std.proofs.Common.{◌≡◌, ℕ, zero, suc, ◌+◌, ◌<◌, ◌≤◌, Bool, true, false, List, [], ◌∷◌, ◌++◌, length, map, drop, Option, Some, None, refl, sym, ap, subst, ◌∙◌, arith, append_assoc, append-nil}
 use Rattle.std.specs.Prelude.{◌==◌, nat_le, find, cond, slice_index_or, if◌then◌else◌}
 use Rattle.std.specs.Option.{option_map}
 use Rattle.std.specs.List.{AllByRecursion}
-use Rattle.std.proofs.lemmas.List.{map-append}
+use Rattle.std.proofs.lemmas.List.{map-append, length-map}
 use Rattle.algorithm_policy.specs.Content.{Content}
 use Rattle.token_check.specs.Sound.{Sound}
 use Rattle.archive_chain.specs.Kept.{Cover, first_from}
@@ -154,6 +154,7 @@ coverings_are policy stamps (c ∷ covers) (covering ∷ coverings) said of e =
         alg_is = ap (λ (t : Told). t.alg) both.0 ∙ ap alg_in is.there ∙ sym is.alg;
         says = says.says;
         sound = subst (λ (t : List ℕ). Sound policy t says.says) (sym is.token) says.sound;
+        hash_is = says.hash_is ∙ sym (ap (λ (t : Told). t.alg) both.0 ∙ ap alg_in is.there);
         time_is = says.time_is ∙ sym (ap (λ (t : Told). t.time) both.0 ∙ ap time_in is.there);
         sid_is = says.sid_is ∙ sym (ap (λ (t : Told). t.sid) both.0 ∙ ap sid_in is.there);
       },
@@ -167,3 +168,15 @@ all_told policy stamps rows id at covers coverings said of none told =
     let done : walk id 0 at (rows_seen stamps rows) ≡ [] = ap (λ (o : Option ℕ). walk id 0 o (rows_seen stamps rows)) none ∙ nothing id 0 (rows_seen stamps rows) in
     coverings_are policy stamps covers coverings said of
     (sym (append-nil (map covering_seen coverings)) ∙ sym (ap (λ (l : List Cover). map covering_seen coverings ++ map (told_by stamps) l) done) ∙ told)
+
+-- and how many
+pub few_told : (stamps : Stamps) (rows : List Row) (id : ℕ) (at : Option ℕ) (covers : List Cover) (coverings : List Covering) → at ≡ None
+    → map covering_seen coverings ++ map (told_by stamps) (walk id 0 at (rows_seen stamps rows)) ≡ map (told_by stamps) covers → length covers ≤ 200 → length coverings ≤ 200
+few_told stamps rows id at covers coverings none told few =
+    let done : walk id 0 at (rows_seen stamps rows) ≡ [] = ap (λ (o : Option ℕ). walk id 0 o (rows_seen stamps rows)) none ∙ nothing id 0 (rows_seen stamps rows) in
+    let same : map covering_seen coverings ≡ map (told_by stamps) covers =
+    sym (append-nil (map covering_seen coverings)) ∙ sym (ap (λ (l : List Cover). map covering_seen coverings ++ map (told_by stamps) l) done) ∙ told in
+    let many = ap (λ (l : List Told). length l) same in
+    let left = length-map coverings covering_seen in
+    let right = length-map covers (told_by stamps) in
+    omega (arith, many, left, right, few)

@@ -20,7 +20,7 @@ said_more policy stamps after t is all one = subst (AllByRecursion (IsSaidOf pol
 abbrev pub Trusts : Content → Content → Type 0
 Trusts old new = (sid : List ℕ) (signer : Signer) → signer_of old sid ≡ Some signer → (other : Signer) × (signer_of new sid ≡ Some other) × IsKept signer other
 
-sound_kept : (old new : Content) → Trusts old new → (token : List ℕ) (says : Says) → Sound old token says → Sound new token says
+pub sound_kept : (old new : Content) → Trusts old new → (token : List ℕ) (says : Says) → Sound old token says → Sound new token says
 sound_kept old new trusts token says sound =
     let by = sound.trusted.by in
     let other = trusts sound.signed.sid sound.trusted.signer sound.trusted.found in
@@ -46,6 +46,7 @@ said_kept old new trusts None said = tt
 said_kept old new trusts (Some t) said = record {
   says = said.says;
   sound = sound_kept old new trusts t.token said.says said.sound;
+  hash_is = said.hash_is;
   time_is = said.time_is;
   sid_is = said.sid_is;
 }

@@ -28,7 +28,7 @@ use Rattle.archive_chain.proofs.Paths.{path_few}
 
 -- ---- ascending lists
 
-chosen : {A : Type 0} (P : A → Type 0) (b : Bool) (x y : A) → P x → P y → P (if b then x else y)
+pub chosen : {A : Type 0} (P : A → Type 0) (b : Bool) (x y : A) → P x → P y → P (if b then x else y)
 chosen P true x y p q = p
 chosen P false x y p q = q
 
@@ -37,7 +37,7 @@ with_value_each P v [] p all = (p, tt)
 with_value_each P v (n ∷ l) p all =
     chosen (AllByRecursion P) (is_le (bytes_cmp v n)) (v ∷ n ∷ l) (n ∷ with_value v l) (p, all) (all.0, with_value_each P v l p all.1)
 
-ascending_each : (P : List ℕ → Type 0) (l : List (List ℕ)) → AllByRecursion P l → AllByRecursion P (ascending l)
+pub ascending_each : (P : List ℕ → Type 0) (l : List (List ℕ)) → AllByRecursion P l → AllByRecursion P (ascending l)
 ascending_each P [] all = tt
 ascending_each P (v ∷ l) all = with_value_each P v (ascending l) all.0 (ascending_each P l all.1)
 
@@ -46,7 +46,7 @@ with_value_long v [] = refl
 with_value_long v (n ∷ l) =
     chosen (λ (x : List (List ℕ)). length x ≡ suc (suc (length l))) (is_le (bytes_cmp v n)) (v ∷ n ∷ l) (n ∷ with_value v l) refl (ap suc (with_value_long v l))
 
-ascending_long : (l : List (List ℕ)) → length (ascending l) ≡ length l
+pub ascending_long : (l : List (List ℕ)) → length (ascending l) ≡ length l
 ascending_long [] = refl
 ascending_long (v ∷ l) = with_value_long v (ascending l) ∙ ap suc (ascending_long l)
 
@@ -80,7 +80,7 @@ with_path first path most all few hashes =
       few,
     )
 
-tree_size : (values path : List (List ℕ)) → 0 < length values → length values ≤ 64 → AllByRecursion IsHash values → length path ≤ 32 → AllByRecursion IsHash path
+pub tree_size : (values path : List (List ℕ)) → 0 < length values → length values ≤ 64 → AllByRecursion IsHash values → length path ≤ 32 → AllByRecursion IsHash path
     → length (tree_text (lists_of values path)) ≤ 6990
 tree_size [] path some most all few hashes = absurd (omega (arith, some))
 tree_size (v ∷ []) [] some most all few hashes = omega arith
@@ -94,7 +94,7 @@ oid_size Sha256 = refl
 oid_size Sha384 = refl
 oid_size Sha512 = refl
 
-name_size : (alg : HashAlg) → length (name_contents (name_of alg)) ≤ 15
+pub name_size : (alg : HashAlg) → length (name_contents (name_of alg)) ≤ 15
 name_size alg = omega (arith, length-append (value 6 (oid_of alg)) [], value_length 6 (oid_of alg), oid_size alg)
 
 pub stamp_size : (t : TimeStamp) (values : List (List ℕ)) (place : ℕ) → IsShort t → 0 < length values → length values ≤ 64 → AllByRecursion IsHash values → AllByRecursion IsHash (tree_path t.tree.alg t.tree.leaves place)

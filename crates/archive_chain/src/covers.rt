@@ -1,6 +1,7 @@
 // What covers a group.
-ghost use Rattle.std.specs.Prelude.{◌≡◌, ◌+◌, length, slice_get, IfOk};
+ghost use Rattle.std.specs.Prelude.{◌≡◌, ◌+◌, ◌≤◌, length, slice_get, IfOk};
 ghost use Rattle.archive_chain.specs.Kept.{covers_of, first_from};
+ghost use Rattle.archive_chain.specs.Rules.{most_stamps};
 ghost use Rattle.archive_chain.specs.Coverings.{AreCoverings};
 
 use crate::archive::Archive;
@@ -49,14 +50,15 @@ impl Archive {
         None
     }
 
-    /// What the time-stamps of a group say, from the first to the last; none of a group that is pending. No token is read
-    /// again. An error is want of memory.
+    /// What the time-stamps of a group say, from the first to the last, at most 200; none of a group that is pending. No
+    /// token is read again. An error is want of memory.
     pub fn coverings<'a>(
         &'a self,
         alloc: Global,
         id: u32,
     ) -> Result<Items<Covering<'a>>, AllocError>
-        ensures { IfOk result (AreCoverings self.now.policy (covers_of self.now.kept id)) }
+        ensures said { IfOk result (AreCoverings self.now.policy (covers_of self.now.kept id)) }
+        ensures few { IfOk result (λ coverings. length coverings ≤ most_stamps) }
     {
         let mut coverings = Vec::new(alloc);
         let mut at = first_of(self.firsts.as_slice(), id);

@@ -28,9 +28,7 @@ impl Archive {
         if let Some(refusal) = self.past_limits(u64::from(groups), documents, bytes) {
             return Err(refusal);
         }
-        let Ok(()) = self.make_room(0) else {
-            return Err(Refusal::Memory);
-        };
+        self.make_room(0)?;
         self.add_deposit(Counts {
             groups,
             documents,

@@ -1,9 +1,9 @@
 // The chain that a RenewTrees begins, and the cohorts after it.
-ghost use Rattle.std.specs.Prelude.{◌≡◌, ◌<◌, ◌^◌, ◌++◌, ◌∷◌, [], length, map, true, IfOk};
+ghost use Rattle.std.specs.Prelude.{◌≡◌, ◌<◌, ◌^◌, ◌++◌, ◌∷◌, [], length, map, true, None, IfOk};
 ghost use Rattle.std.specs.List.{AllByRecursion, list_any};
 ghost use Rattle.entry_codec.specs.Spelling.{AreCohorts};
 ghost use Rattle.archive_chain.specs.Kept.{cohort_of, has_name, ids_in};
-ghost use Rattle.archive_chain.specs.Rules.{is_live};
+ghost use Rattle.archive_chain.specs.Rules.{is_live, live_rule};
 ghost use Rattle.archive_chain.specs.InsideRows.{joined};
 ghost use Rattle.archive_chain.specs.InsideTable.{Rises, ids_seen};
 ghost use Rattle.archive_chain.specs.InsidePieces.{staying};
@@ -54,6 +54,15 @@ fn staying(
 }
 
 impl Archive {
+    /// The groups of these cohorts together, ascending. An error is want of memory.
+    pub fn members_together(&self, alloc: Global, cohorts: &[u32]) -> Result<Items<u32>, AllocError>
+        requires spelled { AreCohorts cohorts.now }
+        requires live { live_rule self.now.kept cohorts.now ≡ None }
+        ensures { IfOk result (λ ids. ids ≡ ids_in cohorts.now 0 self.now.kept.sealed) }
+    {
+        Ok(Items::from_vec(self.members_in(alloc, cohorts)?))
+    }
+
     // What a new chain of these cohorts is.
     pub(crate) fn joined(&self, alloc: Global, cohorts: &[u32]) -> Result<Joined, AllocError>
         requires few { self.now.kept.entries < 2 ^ 32 }
@@ -61,7 +70,8 @@ impl Archive {
         requires live { AllByRecursion (λ c. is_live self.now.kept c ≡ true) cohorts.now }
         ensures { IfOk result (IsJoined self.now cohorts.now) }
     {
-        let members = self.members_in(alloc, cohorts)?;
+        let ids = self.members_in(alloc, cohorts)?;
+        let members = Members::Listed(Items::from_vec(ids));
         let peak = self.peak_in(cohorts).one_more();
         let row = self.next_row(alloc, members, peak);
         let places = self.rows_at(alloc, cohorts)?;
@@ -89,14 +99,14 @@ impl Archive {
     }
 
     // The groups of these cohorts, in order.
-    fn members_in(&self, alloc: Global, cohorts: &[u32]) -> Result<Members, AllocError>
+    fn members_in(&self, alloc: Global, cohorts: &[u32]) -> Result<Vec<u32>, AllocError>
         requires rising { Rises cohorts.now }
         requires live { AllByRecursion (λ c. is_live self.now.kept c ≡ true) cohorts.now }
-        ensures { IfOk result (λ members. ids_seen members ≡ ids_in cohorts.now 0 self.now.kept.sealed) }
+        ensures { IfOk result (λ ids. ids.items ≡ ids_in cohorts.now 0 self.now.kept.sealed) }
     {
         let mut ids = self.all_members(alloc, cohorts)?;
         ids.sort_unstable();
-        Ok(Members::Listed(Items::from_vec(ids)))
+        Ok(ids)
     }
 
     // The groups of these cohorts, cohort by cohort.

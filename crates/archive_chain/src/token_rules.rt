@@ -23,6 +23,7 @@ pub(crate) fn token_rules<'a>(
 ) -> Result<CheckedStamp<'a>, Refusal>
     ensures sound { IfOk result (λ stamp. Sound policy.now token.now (stamp_seen stamp)) }
     ensures token { IfOk result (λ stamp. stamp.bytes.now ≡ token.now) }
+    ensures hash { IfOk result (λ stamp. (stamp_seen stamp).alg ≡ alg) }
     ensures keeps { (covered : List (List ℕ)) → IsLatestOf policy.now covered latest
         → IfOk result (λ stamp. TokenKeepsAs policy.now alg root.now covered token.now (stamp_seen stamp)) }
     ensures breaks { (covered : List (List ℕ)) → IsLatestOf policy.now covered latest

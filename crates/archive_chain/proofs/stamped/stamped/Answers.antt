@@ -19,6 +19,7 @@ returns-clause-made c =
       said = record {
         says = stamp_seen c.in_ok-says.says;
         sound = subst (λ (token : List ℕ). Sound c.args.policy.now token (stamp_seen c.in_ok-says.says)) (sym token_is) c.in_ok-says.ensures.sound;
+        hash_is = c.in_ok-says.ensures.hash ∙ sym k.alg_is;
         time_is = sym k.time_is;
         sid_is = sym k.sid_is;
       };

@@ -9,6 +9,5 @@ pub returns : goal.returns
 returns c =
     let after = c.sort_unstable.new.self in
     let done = c.sort_unstable.ensures in
-    c.from_vec.ensures
-    ∙ sorted_members c.args.cohorts.now c.args.self.now.kept.sealed after.items (rises_apart c.args.cohorts.now c.requires.rising)
+    sorted_members c.args.cohorts.now c.args.self.now.kept.sealed after.items (rises_apart c.args.cohorts.now c.requires.rising)
     (subst (λ (ids : List ℕ). IsPermutation ids after.items) c.in_ok-ids.ensures done.permutation) (IsNonDecreasingBy-from_sort (λ x. x) after.items done.sorted)
