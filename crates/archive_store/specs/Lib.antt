@@ -1,0 +1,12 @@
+pub mod Events
+pub mod Told
+pub mod Images
+pub mod Store
+pub mod Rows
+pub mod Answers
+pub mod Opening
+pub mod InsideFaults
+pub mod InsideRows
+pub mod InsideListing
+pub mod InsideStore
+pub mod InsideReplay
