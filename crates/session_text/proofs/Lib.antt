@@ -7,5 +7,6 @@ mod VerifyLemmas
 mod DocumentLoop
 mod ReadLemmas
 mod LineLemmas
+mod RefusalLemmas
 mod Adding
 mod StandardFacts

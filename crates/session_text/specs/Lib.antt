@@ -5,4 +5,5 @@ pub mod VerifyInput
 pub mod Lines
 pub mod FaultTexts
 pub mod Verdicts
+pub mod RefusalTexts
 pub mod Inside

@@ -67,7 +67,7 @@ pub(crate) fn syntax_kind_name(kind: SyntaxKind) -> &'static [u8]
     }
 }
 
-fn policy_kind_name(kind: PolicyKind) -> &'static [u8]
+pub(crate) fn policy_kind_name(kind: PolicyKind) -> &'static [u8]
     ensures name { result.now ≡ policy_kind_name kind }
     ensures most { length result.now ≤ 20 }
 {

@@ -3,8 +3,10 @@
 
 ghost use Rattle.std.specs.Prelude.{◌≡◌, ℕ, List, None};
 ghost use Rattle.evidence_verify.specs.declared.verdict.Verdict.{Verdict};
+ghost use Rattle.archive_chain.specs.declared.refusal.Refusal.{Refusal};
 ghost use Rattle.session_text.specs.VerifyInput.{Verification, IsVerification, verify_first_fault};
 ghost use Rattle.session_text.specs.Verdicts.{IsVerdictLine};
+ghost use Rattle.session_text.specs.RefusalTexts.{IsRefusalText};
 
 use crate::text::Text;
 use crate::verify_input::mode;
@@ -39,4 +41,9 @@ pub fn what_has_no_fault_is_a_verification(bytes: &[u8])
 /// A verdict has one line.
 pub fn a_verdict_has_one_line()
     ensures { (verdict : Verdict) (a b : List ℕ) → IsVerdictLine a verdict → IsVerdictLine b verdict → a ≡ b }
+{}
+
+/// A refusal has one text.
+pub fn a_refusal_has_one_text()
+    ensures { (refusal : Refusal) (a b : List ℕ) → IsRefusalText refusal a → IsRefusalText refusal b → a ≡ b }
 {}

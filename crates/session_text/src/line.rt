@@ -1,5 +1,6 @@
 // The text of a line, added part by part.
-ghost use Rattle.std.specs.Prelude.{◌+◌, ◌*◌, [], ◌∷◌, length, decimal};
+ghost use Rattle.std.specs.Prelude.{◌≡◌, ◌+◌, ◌*◌, [], ◌∷◌, ◌++◌, length, decimal, OnOk};
+ghost use Rattle.hex.specs.Hex.{encode_lower};
 ghost use Rattle.hash_kit.specs.Algorithm.{word_of};
 ghost use Rattle.session_text.specs.Counted.{counted_text};
 ghost use Rattle.session_text.specs.Lines.{Adds, AddsMoment, spaced};
@@ -50,6 +51,14 @@ pub fn add_hash(out: &mut Vec<u8>, alg: HashAlg) -> Result<(), AllocError>
     ensures { Adds (word_of alg) 6 out.old out.new result }
 {
     add_words(out, alg.word())
+}
+
+/// Adds bytes in lower-case hexadecimal.
+pub fn add_hex(out: &mut Vec<u8>, bytes: &[u8]) -> Result<(), AllocError>
+    ensures { OnOk result (out.new.items ≡ out.old.items ++ encode_lower bytes.now) }
+{
+    let digits = hex::encode(*out.allocator(), bytes)?;
+    add_words(out, digits.as_bytes())
 }
 
 /// Adds a word, the number of the bytes, and the bytes, each with its line feed.

@@ -55,7 +55,11 @@ fn add_verdict(out: &mut Vec<u8>, verdict: &Verdict) -> Result<(), AllocError>
 }
 
 // A name, and numbers behind it.
-fn add_numbered(out: &mut Vec<u8>, name: &[u8], numbers: &[u64]) -> Result<(), AllocError>
+pub(crate) fn add_numbered(
+    out: &mut Vec<u8>,
+    name: &[u8],
+    numbers: &[u64],
+) -> Result<(), AllocError>
     requires name { length name.now ≤ 20 }
     requires numbers { length numbers.now ≤ 2 }
     ensures { Adds (numbered name.now numbers.now) 62 out.old out.new result }
