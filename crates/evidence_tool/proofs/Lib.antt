@@ -1,10 +1,10 @@
-pub mod AddLemmas
+pub mod AnsweringLemmas
 pub mod DepositLemmas
-pub mod FetchLemmas
+pub mod DocumentsLemmas
 pub mod InputLemmas
+pub mod JournalLineLemmas
 pub mod LineLemmas
 pub mod OneWord
-pub mod OpeningLemmas
 pub mod Outcomes
 pub mod OutputLemmas
 pub mod ReplyLemmas

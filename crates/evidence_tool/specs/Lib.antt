@@ -1,8 +1,8 @@
 pub mod Command
 pub mod Entries
-pub mod History
 pub mod Input
 pub mod Inside
+pub mod JournalLines
 pub mod Replies
 pub mod Requests
 pub mod Run

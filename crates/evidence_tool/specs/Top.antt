@@ -3,7 +3,8 @@ use Rattle.std.specs.Prelude.{◌≡◌, ◌⊎◌, ℕ, ◌≤◌, Bool, IsTrue
 use Rattle.civil_moment.specs.declared.moment.Moment.{Moment}
 use Rattle.ev_world.specs.Causes.{Rose}
 use Rattle.ev_world.specs.Disk.{Torn, After, IsQuiet, LeavesOnly}
-use Rattle.gate_journal.specs.Journal.{header, Reads, IsOccupied}
+use Rattle.gate_journal.specs.Journal.{header, IsOccupied}
+use Rattle.archive_store.specs.Images.{ReadsHistory}
 use Rattle.evidence_tool.specs.Input.{TakesAtMost}
 use Rattle.evidence_tool.specs.Run.{Devices, Run, IsLeftAlone}
 use Rattle.evidence_tool.specs.Served.{Ends, ends_by, IsServed}
@@ -12,9 +13,10 @@ use Rattle.evidence_tool.specs.Verifying.{IsVerified}
 
 -- How `create` ended, by the status: an empty journal was made, what stood behind its first 17 bytes stays (0); the disk
 -- failed (5); a journal with an entry was there, and is as it was (6).
-pub record IsCreated {J : Type 0} (tells : Bool) (reads : J → List ℕ) (images : J → List ℕ → Type 0) (clock : J → ℕ) (since : J → ℕ → List ℕ → Type 0) (faults : J → ℕ) (old : J) (status : ℕ) (new : J) : Type 0 where
+pub record IsCreated {J : Type 0} (tells : Bool) (reads : J → List ℕ) (images : J → List ℕ → Type 0) (clock : J → ℕ) (since : J → ℕ → List ℕ → Type 0)
+    (faults : J → ℕ) (old : J) (status : ℕ) (new : J) : Type 0 where
   pub statuses : (status ≡ 0) ⊎ ((status ≡ 5) ⊎ (status ≡ 6))
-  pub made : status ≡ 0 → IsTrue tells → Reads (reads new) []
+  pub made : status ≡ 0 → IsTrue tells → ReadsHistory (reads new) []
   pub bytes : status ≡ 0 → IsTrue tells → reads new ≡ header ++ 0 ∷ drop 17 (reads old)
   pub free : status ≡ 0 → IsTrue tells → ¬ IsOccupied (reads old)
   pub failed : status ≡ 5 → Rose (faults old) (faults new)
@@ -23,7 +25,7 @@ pub record IsCreated {J : Type 0} (tells : Bool) (reads : J → List ℕ) (image
   pub later : faults old ≤ faults new
   -- what a crash leaves: then, an empty journal; at any moment, what stood behind the first 17 bytes; nothing new where a
   -- journal with an entry was there, whatever the status
-  pub each : status ≡ 0 → IsTrue tells → (c : List ℕ) → images new c → Reads c []
+  pub each : status ≡ 0 → IsTrue tells → (c : List ℕ) → images new c → ReadsHistory c []
   pub any_moment : IsTrue tells → LeavesOnly clock since old new (After (Torn 0 17) (images old))
   pub untouched : IsTrue tells → IsOccupied (reads old) → IsQuiet reads images clock since old new
 
@@ -35,7 +37,7 @@ pub record Creates {S K J A : Type 0} (d : Devices S K J) (r : Run S K J A) : Ty
   pub authority : IsLeftAlone r.authority
 
 -- the ends of a run of `serve`, as far as the devices tell them
-abbrev pub ends_of : {S K J A : Type 0} → Devices S K J → Run S K J A → Ends
+abbrev pub ends_of : {S K J A : Type 0} → Devices S K J → Run S K J A → Ends K J
 ends_of d r = ends_by d.taken d.sink_faults d.tells d.reads d.images d.clock d.since d.disk_faults
     r.sink.before r.sink.after r.disk.before r.disk.after
 

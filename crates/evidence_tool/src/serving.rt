@@ -1,21 +1,22 @@
-// The command `serve`: requests are read to the end of the input, and answered over the journal.
-ghost use Rattle.std.specs.Prelude.{◌≡◌, ◌≤◌, map};
+// The command `serve`: requests are read to the end of the input, and answered over the archive.
+ghost use Rattle.std.specs.Prelude.{◌≡◌, ◌≤◌, map, IsTrue};
 ghost use Rattle.std.specs.List.{AllByRecursion};
 ghost use Rattle.evidence_tool.specs.Input.{TakesAtMost};
 ghost use Rattle.evidence_tool.specs.Requests.{IsInRange};
-ghost use Rattle.evidence_tool.specs.Inside.{asked, unopened_status, served_status};
+ghost use Rattle.evidence_tool.specs.Inside.{asked, served_status};
 ghost use Rattle.evidence_tool.specs.Served.{ends_by, IsServing, IsServed};
 ghost use Rattle.evidence_tool.specs.Status.{code_of};
 
-use crate::history::{History, HistoryFault};
 use crate::input::{read_all, unread};
+use crate::refusing::refuse;
 use crate::request::{Request, RequestsFault, read_requests};
 use crate::session::{Served, serve_all};
 use crate::status::Status;
+use archive_store::Store;
 use ev_world::{Disk, Sink, Source};
 use std::alloc::Global;
 
-/// Reads requests to the end of the input, then opens the journal and answers them one by one: the status, and the disk.
+/// Reads requests to the end of the input, then opens the archive and answers them one by one: the status, and the disk.
 pub fn serve_input<S: Source, K: Sink, J: Disk>(
     alloc: Global,
     input: &mut S,
@@ -42,7 +43,7 @@ pub fn serve_input<S: Source, K: Sink, J: Disk>(
     }
 }
 
-// Opens the journal, and answers the requests.
+// Opens the archive, and answers the requests.
 fn serve_requests<K: Sink, J: Disk>(
     alloc: Global,
     requests: &[Request],
@@ -57,24 +58,15 @@ fn serve_requests<K: Sink, J: Disk>(
     ensures sink_later { K.faults output.old ≤ K.faults output.new }
     ensures disk_later { J.faults journal ≤ J.faults result.1 }
 {
-    match History::open(alloc, journal) {
-        Ok(history) => {
-            let mut history = history;
-            let served = serve_all(alloc, &mut history, requests, output);
-            (status_of(served), history.close())
+    match Store::open(alloc, journal) {
+        Ok(store) => {
+            let mut store = store;
+            // What every store keeps says what a stop leaves of this one.
+            let _ = store.archive();
+            let served = serve_all(alloc, &mut store, requests, output);
+            (status_of(served), store.close())
         }
-        Err((journal, fault)) => (unopened(fault), journal),
-    }
-}
-
-fn unopened(fault: HistoryFault) -> Status
-    ensures { result ≡ unopened_status fault }
-{
-    match fault {
-        HistoryFault::Disk => Status::DiskFault,
-        HistoryFault::NotFormatted => Status::NoJournal,
-        HistoryFault::Damaged => Status::Damaged,
-        HistoryFault::Memory => Status::NoMemory,
+        Err((journal, fault)) => (refuse(alloc, &fault, output), journal),
     }
 }
 

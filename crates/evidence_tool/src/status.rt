@@ -17,7 +17,7 @@ pub enum Status {
     DiskFault,
     /// Exactly where there is no journal; for `create` where one with an entry is there.
     NoJournal,
-    /// Exactly where the journal is damaged or holds something else than documents within the limits.
+    /// Exactly where the journal is damaged, or an entry is none or not legal after those before it.
     Damaged,
     /// Exactly where the input has more than 67,108,864 bytes.
     TooLong,

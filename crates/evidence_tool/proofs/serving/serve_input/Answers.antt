@@ -2,7 +2,7 @@ use Rattle.std.proofs.Common.{List, map, ap, refl, sym, ◌∙◌}
 use Rattle.evidence_tool.specs.Served.{no_requests}
 use Rattle.evidence_tool.specs.Inside.{asked}
 use Rattle.evidence_tool.specs.declared.request.Request.{Request}
-use Rattle.evidence_tool.proofs.ServingLemmas.{input_of, served_as, no_input_of, no_memory_here, keeps_what_it_has}
+use Rattle.evidence_tool.proofs.ServingLemmas.{input_of, served_as, no_input_of, no_memory_here}
 use Rattle.evidence_tool.proofs.serving.serve_input.Goals as goal
 
 pub returns-in-Ok-read_requests-clause-serve : goal.returns-in-Ok-read_requests-clause-serve
@@ -18,4 +18,4 @@ returns-in-Err-Shape-clause-serve g c =
     no_requests refl c.in-Ok.ensures.end c.in-Ok.ensures.fits
     (no_input_of _ _ c.in-Ok.bytes.items c.deref.result.now c.in-Ok.ensures.whole c.in-Ok.ensures.end c.deref.ensures.value
     (λ qs are. no_memory_here (sym c.in-Err-Shape.field-0-is ∙ c.in-Err-Shape.ensures.only qs are)))
-    (record { sink = keeps_what_it_has _; disk = λ told. refl; any_moment = λ told f left. g.met.J.Disk.only_now c.args.journal f told left; now = λ told f left. left })
+    (record { sink = refl; disk = refl })
