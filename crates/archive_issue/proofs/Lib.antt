@@ -1,0 +1,22 @@
+pub mod Ends
+pub mod Places
+pub mod Covering
+pub mod Trees
+pub mod Growing
+pub mod Groups
+pub mod AllGroups
+pub mod Keeping
+pub mod Shared
+pub mod Histories
+pub mod Holding
+pub mod Paths
+pub mod Sizes
+pub mod Written
+pub mod Planning
+pub mod Beginning
+pub mod Marking
+pub mod Lasting
+pub mod Reasoning
+pub mod Verifying
+pub mod Putting
+mod StandardFacts
